@@ -1,0 +1,27 @@
+-- How a step of building is answered, from why it is refused.
+use mathlib.Core.Path.{_≡_, refl, sym, ap, subst, _∙_}
+use Rattle.std.specs.declared.option.Option.{Option}
+use Rattle.std.specs.declared.option.Option.the-variants.{Some, None}
+use Rattle.std.specs.declared.result.Result.the-variants.{Ok, Err}
+use Rattle.tables.specs.declared.refusal.Refusal.{Refusal}
+use Rattle.tables.specs.declared.export.BuildError.the-variants.{Refused, OutOfMemory}
+use mathlib.Core.Bool.{Bool}
+use mathlib.Core.List.{List}
+use Rattle.tables.specs.Panel.{Panel}
+use Rattle.tables.specs.Steps.{Answered, Contents}
+
+module _ {A : Type 0} (v : Option Refusal) (old added left : A) where
+  pub answered-refused : (why : Refusal) → v ≡ Some why → left ≡ old → Answered v old added (Err (Refused why)) left
+  answered-refused why e same = subst (λ (w : Option Refusal). Answered w old added (Err (Refused why)) left) (sym e) (refl, same)
+
+  pub answered-ok : v ≡ None → left ≡ added → Answered v old added (Ok tt) left
+  answered-ok e new = subst (λ (w : Option Refusal). Answered w old added (Ok tt) left) (sym e) new
+
+  pub answered-short : v ≡ None → left ≡ old → Answered v old added (Err OutOfMemory) left
+  answered-short e same = subst (λ (w : Option Refusal). Answered w old added (Err OutOfMemory) left) (sym e) same
+
+abbrev pub contents : Panel → List Bool → Contents
+contents p marks = record { panel = p; included = marks }
+
+pub same-contents : {p q : Panel} {ms ns : List Bool} → p ≡ q → ms ≡ ns → contents p ms ≡ contents q ns
+same-contents {p} {q} {ms} {ns} e f = ap (λ (x : Panel). contents x ms) e ∙ ap (contents q) f

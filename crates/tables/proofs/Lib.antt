@@ -1,0 +1,7 @@
+pub mod Tiles
+pub mod Views
+pub mod Adds
+pub mod Refused
+pub mod Answering
+pub mod Somes
+pub mod Checks

@@ -1,0 +1,49 @@
+-- What a finished panel is refused for, and in which order.
+use mathlib.Core.Path.{_≡_}
+use mathlib.Core.Bool.{Bool, true, false, cond, not, _&&_, _||_}
+use mathlib.Core.List.{List, [], _∷_, _++_, map}
+use Prim.Native.Nat.{ℕ, zero, suc, _-_, _<_, _≤_}
+use lib.Dec.{leb, eqb}
+use lib.ListN.{length, getD, take}
+use Rattle.std.specs.Joined.{joined}
+use Rattle.std.specs.Vec.{listOf}
+use Rattle.std.specs.shelf.Lists.{Has}
+use Rattle.std.specs.declared.result.Result.{Result}
+use Rattle.std.specs.declared.result.Result.the-variants.{Ok, Err}
+use Rattle.tables.specs.declared.refusal.Refusal.{Refusal}
+use Rattle.tables.specs.declared.refusal.Refusal.the-variants as refusals
+use Rattle.tables.specs.declared.refusal.Refusal.the-variants.{Limit, ModuleOutOfRange, ExternalRuntime, EntryApart}
+use Rattle.tables.specs.Panel.{Panel, count, external, starts}
+
+-- some element passes
+abbrev pub some : {A : Type 0} → (A → Bool) → List A → Bool
+some test [] = false
+some test (x ∷ xs) = test x || some test xs
+
+-- some number below n passes
+abbrev pub some-below : (ℕ → Bool) → ℕ → Bool
+some-below test zero = false
+some-below test (suc n) = test n || some-below test n
+
+-- the module numbers that the records resolve to
+abbrev pub resolved-numbers : Panel → List ℕ
+resolved-numbers p = joined (λ i. listOf (i .resolved)) (joined (λ m. m .imports) (p .modules))
+
+-- every module number in the table: the runtime module's, the entries', the listed ones, the records'
+abbrev pub named : Panel → List ℕ
+named p = p .runtime ∷ (starts p ++ (p .listed ++ resolved-numbers p))
+
+-- entry e is of another module than the entry before it, and of the same as some earlier one
+abbrev pub apart-at : List ℕ → ℕ → Bool
+apart-at modules e = not (eqb (getD modules (e - 1) 0) (getD modules e 0)) && some (λ m. eqb m (getD modules e 0)) (take e modules)
+
+abbrev pub some-apart : List ℕ → Bool
+some-apart modules = some-below (apart-at modules) (length modules)
+
+-- the smallest refusal of a finished panel
+abbrev pub verdict : Panel → Result (Unit {0}) Refusal
+verdict p =
+    cond (eqb (count p) 0) (Err Limit)
+    (cond (some (leb (count p)) (named p)) (Err ModuleOutOfRange)
+    (cond (external p (p .runtime)) (Err ExternalRuntime)
+    (cond (some-apart (starts p)) (Err EntryApart) (Ok tt))))
