@@ -5,3 +5,4 @@ pub mod Refused
 pub mod Answering
 pub mod Somes
 pub mod Checks
+pub mod Bits

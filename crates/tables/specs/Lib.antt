@@ -6,3 +6,5 @@ pub mod Limits
 pub mod Steps
 pub mod Check
 pub mod Beyond
+pub mod Bits
+pub mod Sets
