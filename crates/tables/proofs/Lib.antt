@@ -6,3 +6,4 @@ pub mod Answering
 pub mod Somes
 pub mod Checks
 pub mod Bits
+pub mod Judging

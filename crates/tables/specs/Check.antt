@@ -11,7 +11,6 @@ use Rattle.std.specs.shelf.Lists.{Has}
 use Rattle.std.specs.declared.result.Result.{Result}
 use Rattle.std.specs.declared.result.Result.the-variants.{Ok, Err}
 use Rattle.tables.specs.declared.refusal.Refusal.{Refusal}
-use Rattle.tables.specs.declared.refusal.Refusal.the-variants as refusals
 use Rattle.tables.specs.declared.refusal.Refusal.the-variants.{Limit, ModuleOutOfRange, ExternalRuntime, EntryApart}
 use Rattle.tables.specs.Panel.{Panel, count, external, starts}
 
@@ -47,3 +46,26 @@ verdict p =
     (cond (some (leb (count p)) (named p)) (Err ModuleOutOfRange)
     (cond (external p (p .runtime)) (Err ExternalRuntime)
     (cond (some-apart (starts p)) (Err EntryApart) (Ok tt))))
+
+-- a number in the table is of no module
+abbrev pub Unknown : Panel → Type 0
+Unknown p = (m : ℕ) × Has (named p) m × (count p ≤ m)
+
+-- three entries in this order: the first and the last of one module, the middle one of another
+pub record Apart (modules : List ℕ) : Type 0 where
+  pub first : ℕ
+  pub middle : ℕ
+  pub last : ℕ
+  pub early : first < middle
+  pub later : middle < last
+  pub within : last < length modules
+  pub same : getD modules first 0 ≡ getD modules last 0
+  pub other : getD modules middle 0 ≡ getD modules last 0 → ⊥
+
+-- how a finished panel is judged: each refusal exactly where its rule is broken and no rule before it is
+pub data Judged (p : Panel) : Result (Unit {0}) Refusal → Type 0 where
+  no-modules : count p ≡ 0 → Judged p (Err Limit)
+  out-of-range : 0 < count p → Unknown p → Judged p (Err ModuleOutOfRange)
+  external-runtime : 0 < count p → (Unknown p → ⊥) → external p (p .runtime) ≡ true → Judged p (Err ExternalRuntime)
+  entry-apart : 0 < count p → (Unknown p → ⊥) → external p (p .runtime) ≡ false → Apart (starts p) → Judged p (Err EntryApart)
+  fit : 0 < count p → (Unknown p → ⊥) → external p (p .runtime) ≡ false → (Apart (starts p) → ⊥) → Judged p (Ok tt)

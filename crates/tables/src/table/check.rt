@@ -5,7 +5,7 @@ ghost use lib.Dec.{eqb};
 ghost use lib.ListN.{length};
 ghost use Rattle.std.specs.Of.Vec.{vec-items};
 ghost use Rattle.tables.specs.Beyond.{some-beyond};
-ghost use Rattle.tables.specs.Check.{some, apart-at, some-apart, verdict};
+ghost use Rattle.tables.specs.Check.{some, apart-at, some-apart, verdict, Judged};
 ghost use Rattle.tables.specs.View.{panel-of};
 use crate::index::ModuleIdx;
 use crate::module::EntryPoint;
@@ -20,7 +20,8 @@ use crate::table::Table;
 impl Table {
     // Whether a finished table may be used, or the smallest refusal of it.
     pub fn check(&self) -> Result<(), Refusal>
-        ensures { λ r. ⌜ r ≡ verdict (panel-of (now (self .entry))) ⌝ }
+        ensures verdict { λ r. ⌜ r ≡ verdict (panel-of (now (self .entry))) ⌝ }
+        ensures judged { λ r. ⌜ Judged (panel-of (now (self .entry))) r ⌝ }
     {
         if self.len() == 0 {
             return Err(Refusal::Limit);
