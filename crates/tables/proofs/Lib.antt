@@ -1,9 +1,1 @@
 pub mod Tiles
-pub mod Views
-pub mod Adds
-pub mod Refused
-pub mod Answering
-pub mod Somes
-pub mod Checks
-pub mod Bits
-pub mod Judging

@@ -2,9 +2,3 @@ pub mod Refusals
 pub mod Panel
 pub mod Spans
 pub mod View
-pub mod Limits
-pub mod Steps
-pub mod Check
-pub mod Beyond
-pub mod Bits
-pub mod Sets

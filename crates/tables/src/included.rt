@@ -15,11 +15,13 @@ impl Included {
     pub fn contains(&self, m: ModuleIdx) -> bool
         ensures { λ r. ⌜ r ≡ getD (vec-items (now (self .entry) .marks)) (m .0) false ⌝ }
     {
-        let i = m.0 as usize;
-        if i < self.marks.len() {
-            self.marks[i]
-        } else {
-            false
-        }
+        mark_at(self.marks.as_slice(), m)
     }
+}
+
+fn mark_at(marks: &[bool], m: ModuleIdx) -> bool
+    ensures { λ r. ⌜ r ≡ getD (now (marks .entry)) (m .0) false ⌝ }
+{
+    let i = m.0 as usize;
+    if i < marks.len() { marks[i] } else { false }
 }

@@ -2,7 +2,7 @@ ghost use mathlib.Core.Path.{_≡_};
 ghost use Rattle.tables.specs.Refusals.{number-of};
 
 // Why a line or a call is refused. docs/REFUSALS.md gives each in full.
-#[derive(Clone, Copy, PartialEq, Eq, Debug)]
+#[derive(Clone, Copy)]
 pub enum Refusal {
     // 1: a line is no line of digits
     MalformedLine,

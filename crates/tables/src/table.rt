@@ -14,12 +14,13 @@ use crate::module::Options;
 // All of an export that stays as it was read. Ids and import records of all modules lie one after another, in the order of the modules.
 #[derive(Drop)]
 pub struct Table {
-    options: Options,
-    modules: Vec<Module>,
-    ids: Vec<u8>,
-    records: Vec<ImportRecord>,
-    entries: Vec<EntryPoint>,
-    listed: Vec<ModuleIdx>,
+    pub options: Options,
+    pub modules: Vec<Module>,
+    pub ids: Vec<u8>,
+    pub records: Vec<ImportRecord>,
+    pub entries: Vec<EntryPoint>,
+    pub listed: Vec<ModuleIdx>,
+    // ids and records are tiled by the modules, and the limits are kept
     ghost ids_tiled: { tiled 0 (map (λ m. m .id) (vec-items modules)) (length (vec-items ids)) ≡ true },
     ghost records_tiled: { tiled 0 (map (λ m. m .«import_records») (vec-items modules)) (length (vec-items records)) ≡ true },
     ghost modules_few: { length (vec-items modules) ≤ 512 },
@@ -27,8 +28,3 @@ pub struct Table {
     ghost entries_few: { length (vec-items entries) ≤ 64 },
     ghost listed_few: { length (vec-items listed) ≤ 512 },
 }
-
-pub mod build;
-pub mod check;
-pub mod limits;
-pub mod read;
