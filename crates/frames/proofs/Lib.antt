@@ -1,0 +1,4 @@
+mod Decoded
+mod Letters
+mod Texts
+mod Writing
