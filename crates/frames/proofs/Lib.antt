@@ -1,4 +1,3 @@
 mod Decoded
 mod Letters
 mod Texts
-mod Writing

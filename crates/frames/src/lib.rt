@@ -1,5 +1,4 @@
-// The frames that a panel export is made of: reading a line, where a reader stands, and writing the lines that answer. It uses tables and digits.
+// The frames that a panel export is made of: reading a line, and where a reader stands. It uses digits and tables.
 pub mod frame;
-pub mod lines;
 pub mod read;
 pub mod stage;

@@ -1,12 +1,10 @@
-ghost use mathlib.Core.Path.{_≡_};
-ghost use mathlib.Core.List.{[], _∷_, _++_};
-ghost use Prim.Native.Nat.{ℕ, _≤_};
-ghost use lib.ListN.{length};
-ghost use Rattle.std.specs.Of.Vec.{vec-items, vec-cap, vec-len};
-use std::alloc::AllocError;
-use std::alloc::Global;
+ghost use Prim.Native.Nat.{_≤_};
+ghost use Rattle.std.specs.Of.Vec.{vec-cap};
 
-// The line that is being read, as far as it need be held: one byte past the longest line that is not refused.
+// The longest line that can be a frame, in digits.
+pub const LINE_LIMIT: usize = 512;
+
+// The line that is being read, as far as it need be held: a line of which one byte past the limit is held is refused as the whole is.
 #[derive(Drop)]
 pub struct LineBuffer {
     pub bytes: Vec<u8>,

@@ -56,7 +56,12 @@ impl Intake {
         }
     }
 
-    fn take_module(&mut self, flags: ModuleFlags, exec_order: u32, id_digits: &[u8]) -> Result<(), BuildError>
+    fn take_module(
+        &mut self,
+        flags: ModuleFlags,
+        exec_order: u32,
+        id_digits: &[u8],
+    ) -> Result<(), BuildError>
         ensures answer { λ r. ⌜ Answer (refusal-of (a-module flags «exec_order» (now («id_digits» .entry)) 14) (read-of (now (self .entry)))) r ⌝ }
         ensures after { λ r. ⌜ read-of (now (self .exit)) ≡ cond (isOk r) (with-frame (a-module flags «exec_order» (now («id_digits» .entry)) 14) (now (self .entry) .reader) (read-of (now (self .entry)))) (read-of (now (self .entry))) ⌝ }
     {

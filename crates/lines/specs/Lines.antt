@@ -12,7 +12,7 @@ use Rattle.digits.specs.Digits.{digits}
 use Rattle.tables.specs.Refusals.{number-of}
 use Rattle.tables.specs.declared.refusal.Refusal.{Refusal}
 use Rattle.tables.specs.declared.index.ModuleIdx.{ModuleIdx}
-use Rattle.frames.specs.declared.lines.ChunkLine.{ChunkLine}
+use Rattle.lines.specs.declared.ChunkLine.{ChunkLine}
 
 -- two bytes for each module
 abbrev pub modules-text : List ModuleIdx → List ℕ

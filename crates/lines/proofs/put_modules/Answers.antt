@@ -6,9 +6,9 @@ use Rattle.std.proofs.shelf.Lists.{take-all, length-take-le}
 use Rattle.digits.specs.Digits.{digits}
 use Rattle.digits.specs.Lay.{laid}
 use Rattle.digits.proofs.Laying.{laid-nothing}
-use Rattle.frames.specs.Lines.{modules-text}
-use Rattle.frames.proofs.Writing.{put-more, put-value, length-modules, modules-more}
-use Rattle.frames.proofs.lines.put_modules.Needs as need
+use Rattle.lines.specs.Lines.{modules-text}
+use Rattle.lines.proofs.Writing.{put-more, put-value, length-modules, modules-more}
+use Rattle.lines.proofs.put_modules.Needs as need
 
 pub loop-m-holds : need.loop-m-holds
 loop-m-holds c = (omega arith, laid-nothing (c .put .last .out) (c .args .start + 4))

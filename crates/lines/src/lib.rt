@@ -1,3 +1,4 @@
+// The lines that answer: refusals, moved modules, chunks and their count, in upper-case digits. It uses digits, sets and tables.
 ghost use mathlib.Core.Path.{_≡_};
 ghost use mathlib.Core.List.{_++_};
 ghost use Prim.Native.Nat.{_+_, _*_, _≤_};
@@ -5,7 +6,7 @@ ghost use lib.Dec.{leb};
 ghost use lib.ListN.{length};
 ghost use Rattle.digits.specs.Digits.{digits};
 ghost use Rattle.digits.specs.Lay.{laid};
-ghost use Rattle.frames.specs.Lines.{modules-text, head-text, refusal-line, edit-line, chunk-line, count-line, Written};
+ghost use Rattle.lines.specs.Lines.{modules-text, head-text, refusal-line, edit-line, chunk-line, count-line, Written};
 use digits::lay_number;
 use sets::EntrySet;
 use tables::index::ChunkIdx;

@@ -4,9 +4,9 @@ use native.Mathlib.Omega.{arith}
 use Rattle.digits.specs.Digits.{digits}
 use Rattle.digits.specs.Lay.{laid}
 use Rattle.tables.specs.Refusals.{number-of}
-use Rattle.frames.specs.Lines.{refusal-line}
-use Rattle.frames.proofs.Writing.{put-value, written-all}
-use Rattle.frames.proofs.lines.write_refusal.Needs as need
+use Rattle.lines.specs.Lines.{refusal-line}
+use Rattle.lines.proofs.Writing.{put-value, written-all}
+use Rattle.lines.proofs.write_refusal.Needs as need
 
 pub returns : need.returns
 returns c =

@@ -12,8 +12,8 @@ use Rattle.digits.specs.Lay.{laid}
 use Rattle.digits.proofs.Hex.{length-digits}
 use Rattle.digits.proofs.Laying.{laid-more, laid-first}
 use Rattle.tables.specs.declared.index.ModuleIdx.{ModuleIdx}
-use Rattle.frames.specs.Lines.{modules-text, edit-line, chunk-line, Written}
-use Rattle.frames.specs.declared.lines.ChunkLine.{ChunkLine}
+use Rattle.lines.specs.Lines.{modules-text, edit-line, chunk-line, Written}
+use Rattle.lines.specs.declared.ChunkLine.{ChunkLine}
 
 -- the buffer after a further part
 pub put-more : (out before after : List ℕ) (start n : ℕ) (first second : List ℕ) → start ≤ length out → n ≡ start + length first → before ≡ laid out start first → after ≡ laid before n second → after ≡ laid out start (first ++ second)

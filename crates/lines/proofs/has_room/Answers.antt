@@ -1,6 +1,6 @@
 use borrow.Author.Needs.{needs}
-use Rattle.frames.proofs.Writing.{length-modules}
-use Rattle.frames.proofs.lines.has_room.Needs as need
+use Rattle.lines.proofs.Writing.{length-modules}
+use Rattle.lines.proofs.has_room.Needs as need
 
 pub returns-then-head-len : need.returns-then-head-len
 returns-then-head-len c = record { room = search needs; text = length-modules (c .args .modules .now) }

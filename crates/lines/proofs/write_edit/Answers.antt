@@ -5,9 +5,9 @@ use lib.ListN.{length}
 use Rattle.std.proofs.shelf.Tests.{leb-true}
 use Rattle.digits.specs.Digits.{digits}
 use Rattle.digits.specs.Lay.{laid}
-use Rattle.frames.specs.Lines.{modules-text, edit-line}
-use Rattle.frames.proofs.Writing.{put-more, written-all, length-edit}
-use Rattle.frames.proofs.lines.write_edit.Needs as need
+use Rattle.lines.specs.Lines.{modules-text, edit-line}
+use Rattle.lines.proofs.Writing.{put-more, written-all, length-edit}
+use Rattle.lines.proofs.write_edit.Needs as need
 
 pub returns : need.returns
 returns c =

@@ -3,8 +3,8 @@ use mathlib.Core.List.{_++_}
 use native.Mathlib.Omega.{arith}
 use Rattle.digits.specs.Digits.{digits}
 use Rattle.digits.specs.Lay.{laid}
-use Rattle.frames.proofs.Writing.{put-value}
-use Rattle.frames.proofs.lines.put_head.Needs as need
+use Rattle.lines.proofs.Writing.{put-value}
+use Rattle.lines.proofs.put_head.Needs as need
 
 pub returns : need.returns
 returns c =

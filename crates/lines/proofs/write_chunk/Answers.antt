@@ -4,9 +4,9 @@ use native.Mathlib.Omega.{arith}
 use lib.ListN.{length}
 use Rattle.std.proofs.shelf.Tests.{leb-true}
 use Rattle.digits.specs.Digits.{digits}
-use Rattle.frames.specs.Lines.{modules-text, head-text, chunk-line}
-use Rattle.frames.proofs.Writing.{put-more, written-all, length-chunk}
-use Rattle.frames.proofs.lines.write_chunk.Needs as need
+use Rattle.lines.specs.Lines.{modules-text, head-text, chunk-line}
+use Rattle.lines.proofs.Writing.{put-more, written-all, length-chunk}
+use Rattle.lines.proofs.write_chunk.Needs as need
 
 pub returns : need.returns
 returns c =
