@@ -3,7 +3,7 @@ use Rattle.std.proofs.shelf.Tests.{eqb-true, leb-true}
 use Rattle.frames.specs.Text.{bytes-of}
 use Rattle.frames.proofs.Letters.{lettered-as}
 use Rattle.frames.proofs.Texts.{rest-draws}
-use Rattle.frames.proofs.read.read_fields.Needs as need
+use Rattle.frames.proofs.fields.read_fields.Needs as need
 
 pub read-options-requires : need.read-options-requires
 read-options-requires c κs =

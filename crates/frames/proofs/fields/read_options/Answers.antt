@@ -1,8 +1,8 @@
 use mathlib.Core.Path.{_≡_, ap, _∙_}
 use Rattle.frames.specs.Text.{bytes-of, order-by, bit}
 use Rattle.frames.proofs.Texts.{options-refused, options-read}
-use Rattle.frames.proofs.read.read_options.Needs as need
-use Rattle.frames.proofs.read.read_options.Needs.{then-has-bit, else-has-bit}
+use Rattle.frames.proofs.fields.read_options.Needs as need
+use Rattle.frames.proofs.fields.read_options.Needs.{then-has-bit, else-has-bit}
 
 pub returns-then-flags-ge4 : need.returns-then-flags-ge4
 returns-then-flags-ge4 c = options-refused (bytes-of (c .args .line .now)) (c .field-flags .result) (c .field-flags .ensures .value) (c .if-flags-ge4 .taken)

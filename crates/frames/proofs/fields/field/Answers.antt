@@ -3,7 +3,7 @@ use native.Mathlib.Omega.{arith}
 use Rattle.std.specs.Options.{isSome}
 use Rattle.frames.specs.Text.{field, bytes-of}
 use Rattle.frames.proofs.Decoded.{line-length, field-number, field-small}
-use Rattle.frames.proofs.read.field.Needs as need
+use Rattle.frames.proofs.fields.field.Needs as need
 
 pub mul-from : need.mul-from
 mul-from c = omega (arith, line-length (c .args .line .now) (c .pre .bytes))

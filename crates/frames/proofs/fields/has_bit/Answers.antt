@@ -2,7 +2,7 @@ use mathlib.Core.Path.{ap}
 use Prim.Native.Nat.{_/_, _^_}
 use lib.Dec.{eqb}
 use Rattle.std.proofs.shelf.Bits.{and-mask}
-use Rattle.frames.proofs.read.has_bit.Needs as need
+use Rattle.frames.proofs.fields.has_bit.Needs as need
 
 pub returns : need.returns
 returns c = ap (λ n. eqb n 1) (and-mask (c .args .flags / 2 ^ c .args .k) 1)

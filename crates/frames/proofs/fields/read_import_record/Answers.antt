@@ -1,8 +1,8 @@
 use mathlib.Core.Path.{_≡_, _∙_}
 use Rattle.frames.specs.Text.{bytes-of, resolved}
 use Rattle.frames.proofs.Texts.{record-read, resolved-none, resolved-some}
-use Rattle.frames.proofs.read.read_import_record.Needs as need
-use Rattle.frames.proofs.read.read_import_record.Needs.{then-module, else-module}
+use Rattle.frames.proofs.fields.read_import_record.Needs as need
+use Rattle.frames.proofs.fields.read_import_record.Needs.{then-module, else-module}
 
 pub returns : need.returns
 returns c =

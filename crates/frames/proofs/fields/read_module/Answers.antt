@@ -3,7 +3,7 @@ use Rattle.std.proofs.shelf.Lists.{take-rest}
 use Rattle.frames.specs.Text.{bytes-of}
 use Rattle.frames.proofs.Decoded.{line-length}
 use Rattle.frames.proofs.Texts.{module-read}
-use Rattle.frames.proofs.read.read_module.Needs as need
+use Rattle.frames.proofs.fields.read_module.Needs as need
 
 pub part-result-count : need.part-result-count
 part-result-count c = omega (arith, line-length (c .args .line .now) (c .pre .bytes))
