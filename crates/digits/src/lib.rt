@@ -74,6 +74,14 @@ pub fn lay_number(out: &mut [u8], at: usize, width: usize, value: u64) -> bool
     ensures after { λ r. ⌜ now (out .exit) ≡ cond r (laid (now (out .entry)) at (digits (2 * width) value)) (now (out .entry)) ⌝ }
     ensures read_back { λ r. ⌜ (value < 16 ^ (2 * width) → number-in (digits (2 * width) value) ≡ Some value) ⌝ }
 {
+    lay_within(out, at, width, value)
+}
+
+fn lay_within(out: &mut [u8], at: usize, width: usize, value: u64) -> bool
+    ensures fits { λ r. ⌜ r ≡ leb (at + 2 * width) (length (now (out .entry))) ⌝ }
+    ensures after { λ r. ⌜ now (out .exit) ≡ cond r (laid (now (out .entry)) at (digits (2 * width) value)) (now (out .entry)) ⌝ }
+    ensures read_back { λ r. ⌜ (value < 16 ^ (2 * width) → number-in (digits (2 * width) value) ≡ Some value) ⌝ }
+{
     if !has_room(out.len(), at, width) {
         return false;
     }
