@@ -1,3 +1,4 @@
 mod Decoded
 mod Letters
 mod Texts
+mod Spelling

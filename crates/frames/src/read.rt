@@ -3,6 +3,7 @@ ghost use mathlib.Core.Bool.{false, cond};
 ghost use Rattle.std.specs.Options.{isSome};
 ghost use Rattle.std.specs.Results.{isOk};
 ghost use Rattle.frames.specs.Text.{viewed, line-bytes, fits, frame-of, frame-under, letter-of};
+ghost use Rattle.frames.specs.Spelling.{Reads};
 ghost use Rattle.frames.specs.Stages.{takes, after, moved-by, Opens};
 ghost use Rattle.frames.specs.declared.stage.Stage.the-variants.{Start};
 use crate::fields::field;
@@ -13,8 +14,22 @@ use crate::stage::Stage;
 use digits::digit_value;
 use tables::refusal::Refusal;
 
-// Reads a line as a frame, whatever came before it.
+// Reads a line as a frame, whatever came before it: the frame that the line spells, and else the smallest refusal.
 pub fn read_frame(line: &[u8]) -> Result<Frame<'_>, Refusal>
+    ensures frame { λ r. ⌜ viewed r ≡ frame-of (now (line .entry)) ⌝ }
+    ensures spelled { λ r. ⌜ Reads (now (line .entry)) (viewed r) ⌝ }
+{
+    read_spelled(line)
+}
+
+fn read_spelled(line: &[u8]) -> Result<Frame<'_>, Refusal>
+    ensures frame { λ r. ⌜ viewed r ≡ frame-of (now (line .entry)) ⌝ }
+    ensures spelled { λ r. ⌜ Reads (now (line .entry)) (viewed r) ⌝ }
+{
+    read_any(line)
+}
+
+fn read_any(line: &[u8]) -> Result<Frame<'_>, Refusal>
     ensures { λ r. ⌜ viewed r ≡ frame-of (now (line .entry)) ⌝ }
 {
     let letter = letter_of(line)?;
