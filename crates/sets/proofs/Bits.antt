@@ -1,14 +1,14 @@
 -- Bits: what is read, what is set, and that they make the number.
 use mathlib.Core.Path.{_≡_, refl, sym, ap, subst, _∙_}
-use mathlib.Core.Bool.{Bool, true, false, cond, _||_, _&&_}
+use mathlib.Core.Bool.{Bool, true, false, cond, _&&_}
 use mathlib.Core.Logic.{_⊎_, inl, inr, ⊎-elim}
 use Prim.Native.Nat.{ℕ, zero, suc, _+_, _-_, _*_, _/_, _%_, _^_, _<_, _≤_}
-use native.Mathlib.Nat.{div-self, div-eq-of-lt, mul-mod-left}
+use native.Mathlib.Nat.{div-self, div-eq-of-lt, mod-eq-of-lt, mul-mod-left}
 use native.Mathlib.Omega.{arith}
-use lib.Bits.{bitAnd, bitOr, and-mask, or-shr, or-mod}
-use lib.Pow.{pow-pos, pow-lt, pow-mono, pow-add, shl-shr}
-use lib.Dec.{eqb, ltb}
-use Rattle.std.proofs.shelf.Tests.{cases-eq, cases-lt, cases-order, eq-eqb, ne-eqb, le-ltb, both-ways}
+use lib.Bits.{bitAnd, bitOr, bitXor, and-mask, and-shr, or-shr, xor-shr, and-mod, or-mod, xor-mod, xor-add-and}
+use lib.Pow.{pow-pos, pow-lt, pow-mono, pow-add, shl-shr, ones-split, ones-lt, high}
+use lib.Dec.{eqb}
+use Rattle.std.proofs.shelf.Tests.{cases-eq, cases-lt, cases-order, eq-eqb, ne-eqb, both-ways}
 use Rattle.std.proofs.shelf.Bits.{mod-below, one-shl, shr-shr}
 use Rattle.sets.specs.Bits.{bit}
 
@@ -40,7 +40,7 @@ power-digit k j =
 bit-cases : (x : ℕ) → x < 2 → (x ≡ 0) ⊎ (x ≡ 1)
 bit-cases x h = ⊎-elim (λ (a : x < 1). inl (omega arith)) (λ (b : 1 ≤ x). inr (omega arith)) (cases-lt x 1)
 
-or-bit : (x : ℕ) → x < 2 → (b : Bool) → eqb (bitOr x (cond b 1 0)) 1 ≡ (eqb x 1 || b)
+or-bit : (x : ℕ) → x < 2 → (b : Bool) → eqb (bitOr x (cond b 1 0)) 1 ≡ cond b true (eqb x 1)
 or-bit x h true = ⊎-elim (λ (e : x ≡ 0). rw e) (λ (e : x ≡ 1). rw e) (bit-cases x h)
 or-bit x h false = ⊎-elim (λ (e : x ≡ 0). rw e) (λ (e : x ≡ 1). rw e) (bit-cases x h)
 
@@ -50,12 +50,47 @@ unfolding bit
 bit-test w k = ap (λ (x : ℕ). eqb x 1) (and-mask (w / 2 ^ k) 1)
 
 -- what `w | 1 << k` sets, in words of any width
-pub bit-set : (width w k : ℕ) → k < width → (j : ℕ) → bit (bitOr w (1 * 2 ^ k % 2 ^ width)) j ≡ (bit w j || eqb j k)
+pub bit-set : (width w k : ℕ) → k < width → (j : ℕ) → bit (bitOr w (1 * 2 ^ k % 2 ^ width)) j ≡ cond (eqb j k) true (bit w j)
 unfolding bit
 bit-set width w k h j =
     ap (λ (x : ℕ). eqb (digit (bitOr w x) j) 1) (one-shl k width h)
     ∙ ap (λ (x : ℕ). eqb x 1) (or-digit w (2 ^ k) j ∙ ap (λ (x : ℕ). bitOr (digit w j) x) (power-digit k j))
     ∙ or-bit (digit w j) (digit-lt w j) (eqb j k)
+
+and-digit : (a b j : ℕ) → digit (bitAnd a b) j ≡ bitAnd (digit a j) (digit b j)
+and-digit a b j = ap (λ (x : ℕ). x % 2) (and-shr a b j) ∙ and-mod (a / 2 ^ j) (b / 2 ^ j) 1
+
+xor-digit : (a b j : ℕ) → digit (bitXor a b) j ≡ bitXor (digit a j) (digit b j)
+xor-digit a b j = ap (λ (x : ℕ). x % 2) (xor-shr a b j) ∙ xor-mod (a / 2 ^ j) (b / 2 ^ j) 1
+
+ones-digit : (j : ℕ) → j < 64 → digit (2 ^ 64 - 1) j ≡ 1
+ones-digit j h =
+    let i : ℕ = 63 - j in
+    let e : 64 ≡ (i + 1) + j = omega arith in
+    let p : 2 ^ 64 - 1 ≡ (2 ^ (i + 1) - 1) * 2 ^ j + (2 ^ j - 1) = ap (λ (x : ℕ). 2 ^ x - 1) e ∙ ones-split (i + 1) j in
+    let q : (2 ^ 64 - 1) / 2 ^ j ≡ 2 ^ (i + 1) - 1 = ap (λ (x : ℕ). x / 2 ^ j) p ∙ high (2 ^ (i + 1) - 1) j (ones-lt j) in
+    let s : 2 ^ (i + 1) ≡ 2 ^ i * 2 = pow-add 2 i 1 in
+    let t : 0 < 2 ^ i = pow-pos i in
+    ap (λ (x : ℕ). x % 2) q ∙ (omega arith)
+
+-- `!y` at 64 bits
+flipped : (y : ℕ) → y < 2 ^ 64 → (2 ^ 64 - 1) - y ≡ bitXor y (2 ^ 64 - 1)
+flipped y h = omega (arith, xor-add-and y (2 ^ 64 - 1), and-mask y 64, mod-eq-of-lt h)
+
+and-bit : (x : ℕ) → x < 2 → (b : Bool) → eqb (bitAnd x (bitXor (cond b 1 0) 1)) 1 ≡ cond b false (eqb x 1)
+and-bit x h true = ⊎-elim (λ (e : x ≡ 0). rw e) (λ (e : x ≡ 1). rw e) (bit-cases x h)
+and-bit x h false = ⊎-elim (λ (e : x ≡ 0). rw e) (λ (e : x ≡ 1). rw e) (bit-cases x h)
+
+-- what `w & !(1 << k)` clears
+pub bit-clear : (w k : ℕ) → k < 64 → (j : ℕ) → j < 64 → bit (bitAnd w ((2 ^ 64 - 1) - 1 * 2 ^ k % 2 ^ 64)) j ≡ cond (eqb j k) false (bit w j)
+unfolding bit
+bit-clear w k h j below =
+    let p : 2 ^ k < 2 ^ 64 = pow-lt h in
+    let e : (2 ^ 64 - 1) - 1 * 2 ^ k % 2 ^ 64 ≡ bitXor (2 ^ k) (2 ^ 64 - 1) = ap (λ (x : ℕ). (2 ^ 64 - 1) - x) (one-shl k 64 h) ∙ flipped (2 ^ k) p in
+    let f : digit (bitXor (2 ^ k) (2 ^ 64 - 1)) j ≡ bitXor (cond (eqb j k) 1 0) 1 = xor-digit (2 ^ k) (2 ^ 64 - 1) j ∙ ap (λ (x : ℕ). bitXor x (digit (2 ^ 64 - 1) j)) (power-digit k j) ∙ ap (λ (x : ℕ). bitXor (cond (eqb j k) 1 0) x) (ones-digit j below) in
+    ap (λ (x : ℕ). eqb (digit (bitAnd w x) j) 1) e
+    ∙ ap (λ (x : ℕ). eqb x 1) (and-digit w (bitXor (2 ^ k) (2 ^ 64 - 1)) j ∙ ap (λ (x : ℕ). bitAnd (digit w j) x) f)
+    ∙ and-bit (digit w j) (digit-lt w j) (eqb j k)
 
 cond-one : (b : Bool) → eqb (cond b 1 0) 1 ≡ b
 cond-one true = refl

@@ -1,0 +1,20 @@
+use mathlib.Core.Path.{refl}
+use mathlib.Core.Bool.{false}
+use native.Mathlib.Omega.{arith}
+use lib.ListN.{length-set}
+use Prim.Native.Nat.{_<_, _≤_, _%_, _/_, _*_}
+use lib.ListN.{length}
+use Rattle.squares.specs.Square.{side-of, place}
+use Rattle.sets.proofs.Bits.{bit-clear}
+use Rattle.squares.proofs.Words.{write-pairs}
+use Rattle.squares.proofs.SquareStore.unset.Needs as need
+
+pub returns : need.returns
+returns c =
+    let s = c .args .self .now in
+    let n = side-of (s .size) (s .words .now) in
+    record {
+      size = simp length-set;
+      pairs = simp length-set (write-pairs n (s .words .now) (c .args .m) (c .args .d) _ false (omega arith) (omega arith) (c .pre .0) (c .pre .1) (bit-clear _ (c .args .d % 64) (omega arith)));
+      lender = refl;
+    }

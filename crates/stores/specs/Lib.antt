@@ -1,0 +1,5 @@
+pub mod Pairs
+pub mod Answers
+pub mod Edits
+pub mod Judged
+pub mod Created
