@@ -2,7 +2,7 @@
 ghost use mathlib.Core.Path.{_≡_};
 ghost use mathlib.Core.Bool.{true, false};
 ghost use Prim.Native.Nat.{ℕ, _+_, _*_, _<_, _≤_};
-ghost use lib.ListN.{length};
+ghost use lib.ListN.{length, drop};
 ghost use denote.Ref.{now as at-now, name};
 ghost use Rattle.std.specs.Options.{Cases};
 ghost use Rattle.std.specs.Results.{Cases as ByOk};
@@ -131,6 +131,7 @@ impl<'a> RowStore<'a> {
         requires few { ⌜ degree (row-pairs (now self .size) (now (now self .numbers)) m) (rows-of (now self .size) (now (now self .numbers))) < 64 ⌝ }
         ensures size { λ _. ⌜ rows-of (now (self .exit) .size) (now (now (self .exit) .numbers)) ≡ rows-of (now (self .entry) .size) (now (now (self .entry) .numbers)) ⌝ }
         ensures pairs { λ _. ⌜ ((a b : ℕ) → row-pairs (now (self .exit) .size) (now (now (self .exit) .numbers)) a b ≡ changed true true (row-pairs (now (self .entry) .size) (now (now (self .entry) .numbers))) m d a b) ⌝ }
+        ensures kept { λ _. ⌜ drop (65 * rows-of (now (self .exit) .size) (now (now (self .exit) .numbers))) (now (now (self .exit) .numbers)) ≡ drop (65 * rows-of (now (self .entry) .size) (now (now (self .entry) .numbers))) (now (now (self .entry) .numbers)) ⌝ }
         ensures lender { λ _. ⌜ name (now (self .exit) .numbers) ≡ name (now (self .entry) .numbers) ⌝ }
     {
         let k = self.listed(m);
@@ -142,6 +143,7 @@ impl<'a> RowStore<'a> {
         requires there { ⌜ row-pairs (now self .size) (now (now self .numbers)) m d ≡ true ⌝ }
         ensures size { λ _. ⌜ rows-of (now (self .exit) .size) (now (now (self .exit) .numbers)) ≡ rows-of (now (self .entry) .size) (now (now (self .entry) .numbers)) ⌝ }
         ensures pairs { λ _. ⌜ ((a b : ℕ) → row-pairs (now (self .exit) .size) (now (now (self .exit) .numbers)) a b ≡ changed true false (row-pairs (now (self .entry) .size) (now (now (self .entry) .numbers))) m d a b) ⌝ }
+        ensures kept { λ _. ⌜ drop (65 * rows-of (now (self .exit) .size) (now (now (self .exit) .numbers))) (now (now (self .exit) .numbers)) ≡ drop (65 * rows-of (now (self .entry) .size) (now (now (self .entry) .numbers))) (now (now (self .entry) .numbers)) ⌝ }
         ensures lender { λ _. ⌜ name (now (self .exit) .numbers) ≡ name (now (self .entry) .numbers) ⌝ }
     {
         let k = self.listed(m);
@@ -156,6 +158,8 @@ pub impl<'a> DependencyStore for RowStore<'a> as RowDependencies {
     ghost modules = { λ s. rows-of (s .size) (at-now (s .numbers)) };
 
     ghost loads = { λ s. row-pairs (s .size) (at-now (s .numbers)) };
+
+    ghost outside = { λ s. drop (65 * rows-of (s .size) (at-now (s .numbers))) (at-now (s .numbers)) };
 
     ghost within = { λ s. rows-within (rows-of (s .size) (at-now (s .numbers))) (at-now (s .numbers)) };
 

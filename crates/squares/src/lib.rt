@@ -2,7 +2,7 @@
 ghost use mathlib.Core.Path.{_≡_};
 ghost use mathlib.Core.Bool.{true, false};
 ghost use Prim.Native.Nat.{ℕ, _+_, _*_, _<_, _≤_};
-ghost use lib.ListN.{length};
+ghost use lib.ListN.{length, drop};
 ghost use denote.Ref.{now as at-now, name};
 ghost use Rattle.std.specs.Options.{Cases};
 ghost use Rattle.std.specs.Results.{Cases as ByOk};
@@ -107,6 +107,7 @@ impl<'a> SquareStore<'a> {
         requires { ⌜ m < side-of (now self .size) (now (now self .words)) ⌝ ∗ ⌜ d < side-of (now self .size) (now (now self .words)) ⌝ }
         ensures size { λ _. ⌜ side-of (now (self .exit) .size) (now (now (self .exit) .words)) ≡ side-of (now (self .entry) .size) (now (now (self .entry) .words)) ⌝ }
         ensures pairs { λ _. ⌜ ((a b : ℕ) → square-pairs (now (self .exit) .size) (now (now (self .exit) .words)) a b ≡ changed true true (square-pairs (now (self .entry) .size) (now (now (self .entry) .words))) m d a b) ⌝ }
+        ensures kept { λ _. ⌜ drop (8 * side-of (now (self .exit) .size) (now (now (self .exit) .words))) (now (now (self .exit) .words)) ≡ drop (8 * side-of (now (self .entry) .size) (now (now (self .entry) .words))) (now (now (self .entry) .words)) ⌝ }
         ensures lender { λ _. ⌜ name (now (self .exit) .words) ≡ name (now (self .entry) .words) ⌝ }
     {
         self.words[8 * m + d / 64] |= 1 << (d % 64);
@@ -116,6 +117,7 @@ impl<'a> SquareStore<'a> {
         requires { ⌜ m < side-of (now self .size) (now (now self .words)) ⌝ ∗ ⌜ d < side-of (now self .size) (now (now self .words)) ⌝ }
         ensures size { λ _. ⌜ side-of (now (self .exit) .size) (now (now (self .exit) .words)) ≡ side-of (now (self .entry) .size) (now (now (self .entry) .words)) ⌝ }
         ensures pairs { λ _. ⌜ ((a b : ℕ) → square-pairs (now (self .exit) .size) (now (now (self .exit) .words)) a b ≡ changed true false (square-pairs (now (self .entry) .size) (now (now (self .entry) .words))) m d a b) ⌝ }
+        ensures kept { λ _. ⌜ drop (8 * side-of (now (self .exit) .size) (now (now (self .exit) .words))) (now (now (self .exit) .words)) ≡ drop (8 * side-of (now (self .entry) .size) (now (now (self .entry) .words))) (now (now (self .entry) .words)) ⌝ }
         ensures lender { λ _. ⌜ name (now (self .exit) .words) ≡ name (now (self .entry) .words) ⌝ }
     {
         self.words[8 * m + d / 64] &= !(1 << (d % 64));
@@ -138,6 +140,8 @@ pub impl<'a> DependencyStore for SquareStore<'a> as SquareDependencies {
     ghost modules = { λ s. side-of (s .size) (at-now (s .words)) };
 
     ghost loads = { λ s. square-pairs (s .size) (at-now (s .words)) };
+
+    ghost outside = { λ s. drop (8 * side-of (s .size) (at-now (s .words))) (at-now (s .words)) };
 
     ghost within = { λ s. within-side (side-of (s .size) (at-now (s .words))) (at-now (s .words)) };
 

@@ -14,6 +14,7 @@ pub fn apply<S: DependencyStore>(store: &mut S, edit: Edit) -> Result<(), Refusa
     ensures answer { λ r. ⌜ r ≡ answer-to (S·DependencyStore .modules (now (store .entry))) (S·DependencyStore .loads (now (store .entry))) edit ⌝ }
     ensures judged { λ r. ⌜ Judged (S·DependencyStore .modules (now (store .entry))) (S·DependencyStore .loads (now (store .entry))) edit r ⌝ }
     ensures size { λ _. ⌜ S·DependencyStore .modules (now (store .exit)) ≡ S·DependencyStore .modules (now (store .entry)) ⌝ }
+    ensures kept { λ _. ⌜ S·DependencyStore .outside (now (store .exit)) ≡ S·DependencyStore .outside (now (store .entry)) ⌝ }
     ensures pairs { λ _. ⌜ S·DependencyStore .loads (now (store .exit)) ≡ pairs-with (S·DependencyStore .modules (now (store .entry))) (S·DependencyStore .loads (now (store .entry))) edit ⌝ }
 {
     put_judged(store, edit)
@@ -23,6 +24,7 @@ fn put_judged<S: DependencyStore>(store: &mut S, edit: Edit) -> Result<(), Refus
     ensures answer { λ r. ⌜ r ≡ answer-to (S·DependencyStore .modules (now (store .entry))) (S·DependencyStore .loads (now (store .entry))) edit ⌝ }
     ensures judged { λ r. ⌜ Judged (S·DependencyStore .modules (now (store .entry))) (S·DependencyStore .loads (now (store .entry))) edit r ⌝ }
     ensures size { λ _. ⌜ S·DependencyStore .modules (now (store .exit)) ≡ S·DependencyStore .modules (now (store .entry)) ⌝ }
+    ensures kept { λ _. ⌜ S·DependencyStore .outside (now (store .exit)) ≡ S·DependencyStore .outside (now (store .entry)) ⌝ }
     ensures pairs { λ _. ⌜ S·DependencyStore .loads (now (store .exit)) ≡ pairs-with (S·DependencyStore .modules (now (store .entry))) (S·DependencyStore .loads (now (store .entry))) edit ⌝ }
 {
     put(store, edit)
@@ -31,6 +33,7 @@ fn put_judged<S: DependencyStore>(store: &mut S, edit: Edit) -> Result<(), Refus
 fn put<S: DependencyStore>(store: &mut S, edit: Edit) -> Result<(), Refusal>
     ensures answer { λ r. ⌜ r ≡ answer-to (S·DependencyStore .modules (now (store .entry))) (S·DependencyStore .loads (now (store .entry))) edit ⌝ }
     ensures size { λ _. ⌜ S·DependencyStore .modules (now (store .exit)) ≡ S·DependencyStore .modules (now (store .entry)) ⌝ }
+    ensures kept { λ _. ⌜ S·DependencyStore .outside (now (store .exit)) ≡ S·DependencyStore .outside (now (store .entry)) ⌝ }
     ensures pairs { λ _. ⌜ S·DependencyStore .loads (now (store .exit)) ≡ pairs-with (S·DependencyStore .modules (now (store .entry))) (S·DependencyStore .loads (now (store .entry))) edit ⌝ }
 {
     match edit {
@@ -46,6 +49,7 @@ pub fn replay<S: DependencyStore>(
     edits: &[Edit],
 ) -> Result<Vec<Result<(), Refusal>>, AllocError>
     ensures size { λ _. ⌜ S·DependencyStore .modules (now (store .exit)) ≡ S·DependencyStore .modules (now (store .entry)) ⌝ }
+    ensures kept { λ _. ⌜ S·DependencyStore .outside (now (store .exit)) ≡ S·DependencyStore .outside (now (store .entry)) ⌝ }
     ensures answers { λ r. ⌜ Cases r (λ v. vec-items v ≡ answers-to (S·DependencyStore .modules (now (store .entry))) (S·DependencyStore .loads (now (store .entry))) (now (edits .entry))) (λ _. now (store .exit) ≡ now (store .entry)) ⌝ }
     ensures pairs { λ r. ⌜ Cases r (λ _. S·DependencyStore .loads (now (store .exit)) ≡ pairs-after (S·DependencyStore .modules (now (store .entry))) (S·DependencyStore .loads (now (store .entry))) (now (edits .entry))) (λ _. now (store .exit) ≡ now (store .entry)) ⌝ }
 {

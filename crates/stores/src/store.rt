@@ -1,5 +1,6 @@
 ghost use mathlib.Core.Path.{_≡_};
 ghost use mathlib.Core.Bool.{Bool, true, false};
+ghost use mathlib.Core.List.{List};
 ghost use Prim.Native.Nat.{ℕ, _<_};
 ghost use Rattle.std.specs.Options.{Cases};
 ghost use Rattle.std.specs.Results.{isOk};
@@ -22,6 +23,9 @@ pub trait DependencyStore {
     // only numbers of modules stand in pairs
     ghost within: { (s : Self) (a b : ℕ) → loads s a b ≡ true → (a < modules s) × (b < modules s) };
 
+    // what of the caller's memory lies past the store's own
+    ghost outside: { Self → List ℕ };
+
     fn size(&self) -> usize
         ensures { λ r. ⌜ r ≡ modules (now (self .entry)) ⌝ };
 
@@ -32,13 +36,15 @@ pub trait DependencyStore {
     fn next(&self, m: ModuleIdx, from: ModuleIdx) -> Option<ModuleIdx>
         ensures { λ r. ⌜ Cases r (None-from (loads (now (self .entry)) (m .0)) (from .0)) (λ d. Smallest (loads (now (self .entry)) (m .0)) (from .0) (d .0)) ⌝ };
 
-    // Adds the pair; a refusal leaves the store, its memory included, as it was.
+    // Adds the pair, in the store's own memory; a refusal leaves the store, its memory included, as it was.
     fn link(&mut self, m: ModuleIdx, d: ModuleIdx) -> Result<(), Refusal>
         ensures links { λ r. ⌜ Links (modules (now (self .entry))) (modules (now (self .exit))) (loads (now (self .entry))) (loads (now (self .exit))) (m .0) (d .0) r ⌝ }
-        ensures refused { λ r. ⌜ (isOk r ≡ false → now (self .exit) ≡ now (self .entry)) ⌝ };
+        ensures refused { λ r. ⌜ (isOk r ≡ false → now (self .exit) ≡ now (self .entry)) ⌝ }
+        ensures kept { λ _. ⌜ outside (now (self .exit)) ≡ outside (now (self .entry)) ⌝ };
 
-    // Removes the pair; a refusal leaves the store, its memory included, as it was.
+    // Removes the pair, in the store's own memory; a refusal leaves the store, its memory included, as it was.
     fn unlink(&mut self, m: ModuleIdx, d: ModuleIdx) -> Result<(), Refusal>
         ensures unlinks { λ r. ⌜ Unlinks (modules (now (self .entry))) (modules (now (self .exit))) (loads (now (self .entry))) (loads (now (self .exit))) (m .0) (d .0) r ⌝ }
-        ensures refused { λ r. ⌜ (isOk r ≡ false → now (self .exit) ≡ now (self .entry)) ⌝ };
+        ensures refused { λ r. ⌜ (isOk r ≡ false → now (self .exit) ≡ now (self .entry)) ⌝ }
+        ensures kept { λ _. ⌜ outside (now (self .exit)) ≡ outside (now (self .entry)) ⌝ };
 }

@@ -1,9 +1,11 @@
 use mathlib.Core.Path.{_≡_, refl, sym, ap, _∙_}
 use native.Mathlib.Omega.{arith}
-use Prim.Native.Nat.{ℕ, _<_, _≤_, _/_, min}
-use lib.ListN.{length}
+use Prim.Native.Nat.{ℕ, _<_, _≤_, _*_, _/_, min}
+use lib.ListN.{length, drop}
 use Rattle.rows.specs.Rows.{rows-of, listed-in}
 use Rattle.stores.specs.Pairs.{changed}
+use mathlib.Core.Logic.{inr}
+use Rattle.rows.proofs.Past.{past-same}
 use Rattle.rows.proofs.Listing.{put-few, put-fresh, put-rises, insert-pairs}
 use Rattle.rows.proofs.RowStore.put.Needs as need
 
@@ -31,5 +33,6 @@ returns c =
     record {
       size = size;
       pairs = λ a b. ap (λ (r : ℕ). listed-in r new a b) size ∙ insert-pairs n old new (c .args .m) k (c .args .d) (c .insert-p .result) (omega arith) (c .pre .column) few (sym (c .listed-k .ensures .len)) (c .insert-p .ensures) (c .pre .row) a b;
+      kept = ap (λ (r : ℕ). drop (65 * r) new) size ∙ past-same old new (65 * n) long (λ j h. c .insert-p .ensures .others j (inr (omega (arith, c .pre .row))));
       lender = refl;
     }

@@ -1,8 +1,10 @@
 use mathlib.Core.Path.{_≡_, refl, sym, ap, _∙_}
 use native.Mathlib.Omega.{arith}
-use Prim.Native.Nat.{ℕ, _<_, _≤_, _/_, min}
-use lib.ListN.{length}
+use Prim.Native.Nat.{ℕ, _<_, _≤_, _*_, _/_, min}
+use lib.ListN.{length, drop}
 use Rattle.rows.specs.Rows.{rows-of, listed-in}
+use mathlib.Core.Logic.{inr}
+use Rattle.rows.proofs.Past.{past-same}
 use Rattle.rows.proofs.Listing.{place-there, remove-pairs}
 use Rattle.rows.proofs.RowStore.take_out.Needs as need
 
@@ -28,5 +30,6 @@ returns c =
     record {
       size = size;
       pairs = λ a b. ap (λ (r : ℕ). listed-in r new a b) size ∙ remove-pairs n old new (c .args .m) k (c .args .d) (c .place-of-p .result) (omega arith) (at .0) (sym (c .listed-k .ensures .len)) (at .1) (c .remove .ensures) (c .pre .row) a b;
+      kept = ap (λ (r : ℕ). drop (65 * r) new) size ∙ past-same old new (65 * n) long (λ j h. c .remove .ensures .others j (inr (omega (arith, c .pre .row))));
       lender = refl;
     }

@@ -12,5 +12,6 @@ returns g c =
       answer = c .put .ensures .answer;
       judged = subst (λ (r : Outcome). Judged n p (c .args .edit) r) (sym (c .put .ensures .answer)) (judge n p (c .args .edit));
       size = c .put .ensures .size;
+      kept = c .put .ensures .kept;
       pairs = c .put .ensures .pairs;
     }

@@ -14,6 +14,7 @@ loop-edit-again g c =
       c .apply .ensures .size ∙ inv .2,
       answers-more _ _ (inv .2) _ _ es (c .loop-edit .edit-index) _ within (c .apply .ensures .pairs) _ _ _ _ (c .apply .ensures .answer) (c .push-reserved .ensures .items) (inv .3),
       pairs-more _ _ (inv .2) _ _ es (c .loop-edit .edit-index) _ within (c .apply .ensures .pairs) _ (inv .4),
+      c .apply .ensures .kept ∙ inv .5,
     )
 
 pub returns : need.returns
@@ -22,6 +23,7 @@ returns g c =
     let es = c .args .edits .now in
     record {
       size = inv .2;
+      kept = inv .5;
       answers = answers-all _ _ es (c .loop-edit .edit-index) (c .loop-edit-test .left) _ _ (inv .3);
       pairs = pairs-all _ _ es (c .loop-edit .edit-index) (c .loop-edit-test .left) _ (inv .4);
     }

@@ -14,3 +14,4 @@ Inv-loop-edit g l =
     × (s .modules (l .store) ≡ s .modules (l .entry .store))
     × (vec-items (l .answers) ++ answers-to (s .modules (l .entry .store)) (s .loads (l .store)) (drop (l .edit-index) (l .edits)) ≡ answers-to (s .modules (l .entry .store)) (s .loads (l .entry .store)) (l .edits))
     × (pairs-after (s .modules (l .entry .store)) (s .loads (l .store)) (drop (l .edit-index) (l .edits)) ≡ pairs-after (s .modules (l .entry .store)) (s .loads (l .entry .store)) (l .edits))
+    × (s .outside (l .store) ≡ s .outside (l .entry .store))
