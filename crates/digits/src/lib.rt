@@ -1,4 +1,6 @@
 // Upper-case hexadecimal: reading digits as numbers and bytes, and laying a number's digits. It uses no other crate.
+#![tactic(auto)]
+
 ghost use Rattle.std.specs.Prelude.{◌≡◌, ◌+◌, ◌*◌, ◌/◌, ◌%◌, ◌^◌, ◌<◌, ◌≤◌, leb, length, IfOk, if◌then◌else◌, Some, None, vec_items, nat_le};
 ghost use Rattle.std.specs.Option.{option_map};
 ghost use Rattle.digits.specs.Digits.{value_of, digit_of, number_in, byte_of, bytes_in, digits};

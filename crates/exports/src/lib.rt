@@ -1,4 +1,6 @@
 // A panel export built step by step within its limits, and its check. It uses tables.
+#![tactic(auto)]
+
 mod add;
 mod build;
 mod check;

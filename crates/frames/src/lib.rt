@@ -1,4 +1,6 @@
 // The frames that a panel export is made of: reading a line, and where a reader stands. It uses digits and tables.
+#![tactic(auto)]
+
 mod fields;
 pub mod frame;
 pub mod read;

@@ -1,4 +1,6 @@
 // Exports at their boundaries, read byte by byte, and the lines that answer: both are compared with what the rules say. It uses panels, exports, lines, sets and tables.
+#![tactic(auto)]
+
 #[cfg(test)]
 mod boundaries;
 #[cfg(test)]

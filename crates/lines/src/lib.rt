@@ -1,4 +1,6 @@
 // The lines that answer: refusals, moved modules, chunks and their count, in upper-case digits. It uses digits, sets and tables.
+#![tactic(auto)]
+
 ghost use Rattle.std.specs.Prelude.{◌≡◌, ◌+◌, ◌*◌, ◌≤◌, ◌++◌, length, nat_le};
 ghost use Rattle.digits.specs.Digits.{digits};
 ghost use Rattle.digits.specs.Lay.{laid};

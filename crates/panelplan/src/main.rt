@@ -1,4 +1,6 @@
 // Reads a panel export from standard input, and prints what each of its calls is answered, a line each.
+#![tactic(auto)]
+
 use exports::export::BuildError;
 use lines::write_refusal;
 use panels::intake::Step;

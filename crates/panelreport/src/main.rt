@@ -1,4 +1,6 @@
 // Reads a panel export from standard input, and prints for a person what it holds or why it is refused.
+#![tactic(auto)]
+
 use exports::export::BuildError;
 use frames::stage::Stage;
 use panels::session::Session;

@@ -1,4 +1,6 @@
 // From the bytes of an export to its tables: lines, frames and the steps that they ask for. It uses exports, frames, digits and tables.
+#![tactic(auto)]
+
 pub mod bytes;
 pub mod feed;
 pub mod hold;

@@ -1,4 +1,6 @@
 // How quick the edits of a plan are, over both stores. It makes a few edits on small panels and prints how many were accepted and how many modules moved; with the argument `time` it takes panels of 512 modules and prints how many edits it makes in a second.
+#![tactic(auto)]
+
 mod batches;
 mod graphs;
 mod measure;

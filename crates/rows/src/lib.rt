@@ -1,4 +1,6 @@
 // A dependency store as rows of ascending numbers in the caller's memory. It uses stores and tables.
+#![tactic(auto)]
+
 ghost use Rattle.std.specs.Prelude.{◌≡◌, ℕ, ◌+◌, ◌*◌, ◌<◌, ◌≤◌, true, false, length, drop, IfOk, MatchOption, MatchResult};
 ghost use Rattle.stores.specs.Pairs.{degree, changed, no_pairs, Smallest, NoneFrom};
 ghost use Rattle.rows.specs.Rows.{rows_of, row_length, in_row, row_pairs, PlaceOf};

@@ -1,4 +1,6 @@
 // Sets of entries, known by their members. It uses no other crate.
+#![tactic(auto)]
+
 ghost use Rattle.std.specs.Prelude.{◌≡◌, ℕ, not, ◌&&◌, ◌||◌, Decides, ◌==◌, nat_lt};
 ghost use Rattle.sets.specs.Sets.{width, member, Empty, Same};
 

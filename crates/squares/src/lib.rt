@@ -1,4 +1,6 @@
 // A dependency store as a square of bits in the caller's memory. It uses sets, stores and tables.
+#![tactic(auto)]
+
 ghost use Rattle.std.specs.Prelude.{◌≡◌, ℕ, ◌+◌, ◌*◌, ◌<◌, ◌≤◌, true, false, length, drop, IfOk, MatchOption, MatchResult};
 ghost use Rattle.stores.specs.Pairs.{degree, changed, no_pairs, Smallest, NoneFrom};
 ghost use Rattle.squares.specs.Square.{square_pairs, side_of, within_side};

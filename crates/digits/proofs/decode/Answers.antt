@@ -11,7 +11,7 @@ returns-in-default c = sym (behind_stop (vec_items c.loop-k.bytes) c.loop-k.k c.
 
 pub loop-k-preserved : goal.loop-k-preserved
 loop-k-preserved c =
-    ap (λ xs. behind xs (bytes_in (drop (2 * (c.loop-k.k + 1)) c.args.text.now))) c.in-ok-push.ensures.items
+    ap (λ xs. behind xs (bytes_in (drop (2 * (c.loop-k.k + 1)) c.args.text.now))) c.in_ok-push.ensures.items
     ∙ sym (behind_more (vec_items c.loop-k.bytes) c.loop-k.k c.in-Some.byte c.args.text.now c.loop-k-test.true c.in-Some.ensures)
     ∙ c.loop-k.invariant
 

@@ -13,8 +13,8 @@ loop-i-preserved c =
     let n = c.args.value in
     let i = c.loop-i.i in
     let within : i < k = omega arith in
-    ap (λ l. set l (c.args.at + i) c.digit-at.result) c.loop-i.invariant
-    ∙ ap (set _ (c.args.at + i)) (c.digit-at.ensures ∙ sym (digits_at k n i within))
+    ap (λ l. set l (c.args.at + i) c.digit_at.result) c.loop-i.invariant
+    ∙ ap (set _ (c.args.at + i)) (c.digit_at.ensures ∙ sym (digits_at k n i within))
     ∙ part_more c.args.out.now c.args.at (digits k n) i (omega (arith, c.requires)) (omega (arith, length_digits k n))
 
 pub returns : goal.returns

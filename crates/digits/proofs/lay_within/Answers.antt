@@ -6,4 +6,4 @@ pub returns-then-not-has-room : goal.returns-then-not-has-room
 returns-then-not-has-room c = record { fits = c.if-not-has-room.ensures; after = refl; read_back = read_back _ _ }
 
 pub returns : goal.returns
-returns c = record { fits = c.if-not-has-room.ensures; after = c.lay.ensures; read_back = read_back _ _ }
+returns c = record { fits = c.if-not-has_room.ensures; after = c.lay.ensures; read_back = read_back _ _ }

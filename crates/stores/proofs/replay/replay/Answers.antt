@@ -7,10 +7,10 @@ loop-edit-preserved g c =
     let inv = c.loop-edit.invariant in
     let es = c.args.edits.now in
     let within = c.loop-edit-test.true in (
-      omega (arith, c.push-reserved.ensures.len, inv.0),
-      omega (arith, c.push-reserved.ensures.capacity, inv.1),
+      omega (arith, c.push_reserved.ensures.len, inv.0),
+      omega (arith, c.push_reserved.ensures.capacity, inv.1),
       c.apply.ensures.size ∙ inv.2,
-      answers_more _ _ inv.2 _ _ es c.loop-edit.edit-index _ within c.apply.ensures.pairs _ _ _ _ c.apply.ensures.answer c.push-reserved.ensures.items inv.3,
+      answers_more _ _ inv.2 _ _ es c.loop-edit.edit-index _ within c.apply.ensures.pairs _ _ _ _ c.apply.ensures.answer c.push_reserved.ensures.items inv.3,
       pairs_more _ _ inv.2 _ _ es c.loop-edit.edit-index _ within c.apply.ensures.pairs _ inv.4,
       c.apply.ensures.kept ∙ inv.5,
     )

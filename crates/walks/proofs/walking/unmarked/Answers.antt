@@ -9,6 +9,6 @@ falses n k = ⊎_elim (λ (h : k < n). get_or-replicate n k false false h) (λ (
 
 pub returns : goal.returns
 returns c = (
-  c.in-ok-marks.ensures.len,
-  λ k. ap (λ (u : List Bool). get_or u k false) (c.in-ok-marks.ensures.items-if-clones-equal (λ y e. e)) ∙ falses c.args.nodes k,
+  c.in_ok-marks.ensures.len,
+  λ k. ap (λ (u : List Bool). get_or u k false) (c.in_ok-marks.ensures.items_if_clones_equal (λ y e. e)) ∙ falses c.args.nodes k,
 )

@@ -21,8 +21,8 @@ walk-from-count-requires g c = record {
 
 pub loop-root-preserved : goal.loop-root-preserved
 loop-root-preserved g c = (
-  onward c.args.roots.now c.loop-root.root-index c.loop-root-test.true c.loop-root.invariant.0 c.walk-from-count.ensures.walk,
-  c.walk-from-count.ensures.marks,
+  onward c.args.roots.now c.loop-root.root-index c.loop-root-test.true c.loop-root.invariant.0 c.walk_from-count.ensures.walk,
+  c.walk_from-count.ensures.marks,
 )
 
 pub returns : goal.returns

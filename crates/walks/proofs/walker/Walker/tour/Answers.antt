@@ -32,13 +32,13 @@ invariant-of-self g c =
 pub returns : goal.returns
 returns g c =
     let s = c.args.self.now in
-    let r = c.walk-all-count.result in
-    let os = c.walk-all-count.new.order in
+    let r = c.walk_all-count.result in
+    let os = c.walk_all-count.new.order in
     let o : length os ≡ s.order.len = search rules in
     let t = take_at os (drop (length os) s.order.items) s.order.len o in
-    let few : r ≤ length os = omega (arith, c.walk-all-count.ensures.few, c.requires.sized, o, s.order_long) in
+    let few : r ≤ length os = omega (arith, c.walk_all-count.ensures.few, c.requires.sized, o, s.order_long) in
     record {
       size = refl;
       count = sym (ap (λ (u : List ℕ). length (take r u)) t ∙ length-take-le r os few);
-      tour = subst (λ (u : List ℕ). Tour (λ x. g.G.Arcs.rest c.args.arcs.now x 0) c.args.roots.now (take r u)) (sym t) c.walk-all-count.ensures.tour;
+      tour = subst (λ (u : List ℕ). Tour (λ x. g.G.Arcs.rest c.args.arcs.now x 0) c.args.roots.now (take r u)) (sym t) c.walk_all-count.ensures.tour;
     }
