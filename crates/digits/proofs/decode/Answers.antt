@@ -6,8 +6,8 @@ use Rattle.digits.proofs.decode.Goals as goal
 pub returns-then-text-ne0 : goal.returns-then-text-ne0
 returns-then-text-ne0 c = sym (odd_none c.args.text.now c.if-text-ne0.true)
 
-pub returns-in-default : goal.returns-in-default
-returns-in-default c = sym (behind_stop (vec_items c.loop-k.bytes) c.loop-k.k c.args.text.now c.loop-k-test.true c.in-default.ensures) ∙ c.loop-k.invariant
+pub returns-in_default : goal.returns-in_default
+returns-in_default c = sym (behind_stop (vec_items c.loop-k.bytes) c.loop-k.k c.args.text.now c.loop-k-test.true c.in_default.ensures) ∙ c.loop-k.invariant
 
 pub loop-k-preserved : goal.loop-k-preserved
 loop-k-preserved c =

@@ -4,15 +4,15 @@ use Rattle.std.proofs.lemmas.Bool.{le-leb, cond-true}
 use Rattle.digits.proofs.Hex.{value_below, value_more, value_fits, after, after_more, after_stop}
 use Rattle.digits.proofs.number.Goals as goal
 
-pub returns-in-default : goal.returns-in-default
-returns-in-default c =
-    sym (cond-true _ _ _ (le-leb _ 16 c.if-text-gt16.false) ∙ sym c.loop-b.invariant.1 ∙ after_stop c.loop-b.value c.loop-b.b-index c.args.text.now c.loop-b-test.true c.in-default.ensures)
+pub returns-in_default : goal.returns-in_default
+returns-in_default c =
+    sym (cond-true _ _ _ (le-leb _ 16 c.if-text-gt16.false) ∙ sym c.loop-b.invariant.1 ∙ after_stop c.loop-b.value c.loop-b.b-index c.args.text.now c.loop-b-test.true c.in_default.ensures)
 
-pub overflow-mul-value : goal.overflow-mul-value
-overflow-mul-value c = omega (arith, value_fits c.loop-b.value 0 c.loop-b.b-index _ c.loop-b.invariant.0 (omega arith) c.loop-b-test.true c.if-text-gt16.false)
+pub overflow_mul-value : goal.overflow_mul-value
+overflow_mul-value c = omega (arith, value_fits c.loop-b.value 0 c.loop-b.b-index _ c.loop-b.invariant.0 (omega arith) c.loop-b-test.true c.if-text-gt16.false)
 
-pub overflow-add-value : goal.overflow-add-value
-overflow-add-value c =
+pub overflow_add-value : goal.overflow_add-value
+overflow_add-value c =
     let d = value_below (get_or c.args.text.now c.loop-b.b-index 0) c.in-Some.d c.in-Some.ensures in
     omega (arith, value_fits c.loop-b.value c.in-Some.d c.loop-b.b-index _ c.loop-b.invariant.0 d c.loop-b-test.true c.if-text-gt16.false)
 

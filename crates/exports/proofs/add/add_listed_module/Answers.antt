@@ -6,8 +6,8 @@ use Rattle.exports.proofs.add.add_listed_module.Goals as goal
 pub returns-in-Some : goal.returns-in-Some
 returns-in-Some c = record { panel = answered_refused _ _ _ _ c.in-Some.why (listed_refusal_is c.args.table.now ∙ sym c.in-Some.ensures) refl; modules = refl }
 
-pub returns-then-not-push-listed : goal.returns-then-not-push-listed
-returns-then-not-push-listed c = record { panel = answered_short _ _ _ _ (listed_refusal_is c.args.table.now ∙ sym c.in-default.ensures) c.if-not-push-listed.ensures.panel; modules = c.if-not-push-listed.ensures.modules }
+pub returns-then-not-push_listed : goal.returns-then-not-push_listed
+returns-then-not-push_listed c = record { panel = answered_short _ _ _ _ (listed_refusal_is c.args.table.now ∙ sym c.in_default.ensures) c.if-not-push_listed.ensures.panel; modules = c.if-not-push_listed.ensures.modules }
 
 pub returns : goal.returns
-returns c = record { panel = answered_ok _ _ _ _ (listed_refusal_is c.args.table.now ∙ sym c.in-default.ensures) c.if-not-push-listed.ensures.panel; modules = c.if-not-push-listed.ensures.modules }
+returns c = record { panel = answered_ok _ _ _ _ (listed_refusal_is c.args.table.now ∙ sym c.in_default.ensures) c.if-not-push_listed.ensures.panel; modules = c.if-not-push_listed.ensures.modules }

@@ -7,6 +7,6 @@ returns c =
     let t = c.args.table.now in
     let ls = vec_items t.listed in
     record {
-      panel = listed_added t.options (vec_items t.modules) (vec_items t.ids) (vec_items t.records) (vec_items t.entries) ls c.args.m c.is-ok.result (vec_items c.push.new.self) (c.push.ensures.items ∙ ap (λ (b : Bool). cond b (ls ++ c.args.m ∷ []) ls) (sym c.is-ok.ensures.value));
+      panel = listed_added t.options (vec_items t.modules) (vec_items t.ids) (vec_items t.records) (vec_items t.entries) ls c.args.m c.is_ok.result (vec_items c.push.new.self) (c.push.ensures.items ∙ ap (λ (b : Bool). cond b (ls ++ c.args.m ∷ []) ls) (sym c.is_ok.ensures.value));
       modules = refl;
     }

@@ -3,15 +3,15 @@ use Rattle.tables.specs.declared.module.Module.{Module}
 use Rattle.exports.proofs.Adds.{module_lies}
 use Rattle.exports.proofs.build.push_module.Goals as goal
 
-pub invariant-of-table-2 : goal.invariant-of-table-2
-invariant-of-table-2 c =
+pub invariant_of-table-2 : goal.invariant_of-table-2
+invariant_of-table-2 c =
     let t = c.args.table.now in
     let ms = vec_items t.modules in
     let ids = vec_items t.ids in
     let rs = vec_items t.records in
-    let grown = c.in-Ok-extend-from-slice.ensures.items in
-    let lies = module_lies t.options ms ids rs (vec_items t.entries) (vec_items t.listed) c.args.flags c.args.exec-order c.args.id.now (vec_items c.push-reserved.new.self) (vec_items c.reserve.new.self) (vec_items c.extend-from-slice.new.self) c.len-start.result c.len-end.result c.len-first.result grown (c.len-start.ensures ∙ t.ids.ok.0) (c.len-end.ensures ∙ c.extend-from-slice.new.self.ok.0) (c.len-first.ensures ∙ t.records.ok.0) c.reserve.ensures.items c.push-reserved.ensures.items t.ids_tiled t.records_tiled in
-    (lies.ids_lie, (lies.records_lie, (omega (arith, lies.long, c.requires), (t.records_few, (t.entries_few, (t.listed_few, tt))))))
+    let grown = c.in-Ok-extend_from_slice.ensures.items in
+    let lies = module_lies t.options ms ids rs (vec_items t.entries) (vec_items t.listed) c.args.flags c.args.exec_order c.args.id.now (vec_items c.push_reserved.new.self) (vec_items c.reserve.new.self) (vec_items c.extend_from_slice.new.self) c.len-start.result c.len-end.result c.len-first.result grown (c.len-start.ensures ∙ t.ids.ok.0) (c.len-end.ensures ∙ c.extend_from_slice.new.self.ok.0) (c.len-first.ensures ∙ t.records.ok.0) c.reserve.ensures.items c.push_reserved.ensures.items t.ids_tiled t.records_tiled in
+    record { ids_tiled = lies.ids_lie; records_tiled = lies.records_lie; modules_few = omega (arith, lies.long, c.requires); records_few = t.records_few; entries_few = t.entries_few; listed_few = t.listed_few }
 
 pub returns : goal.returns
 returns c =
@@ -19,6 +19,6 @@ returns c =
     let ms = vec_items t.modules in
     let ids = vec_items t.ids in
     let rs = vec_items t.records in
-    let grown = c.in-Ok-extend-from-slice.ensures.items in
-    let lies = module_lies t.options ms ids rs (vec_items t.entries) (vec_items t.listed) c.args.flags c.args.exec-order c.args.id.now (vec_items c.push-reserved.new.self) (vec_items c.reserve.new.self) (vec_items c.extend-from-slice.new.self) c.len-start.result c.len-end.result c.len-first.result grown (c.len-start.ensures ∙ t.ids.ok.0) (c.len-end.ensures ∙ c.extend-from-slice.new.self.ok.0) (c.len-first.ensures ∙ t.records.ok.0) c.reserve.ensures.items c.push-reserved.ensures.items t.ids_tiled t.records_tiled in
+    let grown = c.in-Ok-extend_from_slice.ensures.items in
+    let lies = module_lies t.options ms ids rs (vec_items t.entries) (vec_items t.listed) c.args.flags c.args.exec_order c.args.id.now (vec_items c.push_reserved.new.self) (vec_items c.reserve.new.self) (vec_items c.extend_from_slice.new.self) c.len-start.result c.len-end.result c.len-first.result grown (c.len-start.ensures ∙ t.ids.ok.0) (c.len-end.ensures ∙ c.extend_from_slice.new.self.ok.0) (c.len-first.ensures ∙ t.records.ok.0) c.reserve.ensures.items c.push_reserved.ensures.items t.ids_tiled t.records_tiled in
     record { panel = lies.panel; len = lies.long }

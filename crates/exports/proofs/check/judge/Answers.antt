@@ -12,22 +12,22 @@ returns-then-len-eq0 c =
     let e = verdict_by c.args.table.now true _ _ _ (eq-eqb _ 0 (sym c.len.ensures ∙ c.if-len-eq0.true)) refl refl refl in
     record { verdict = e; judged = judged_by (panel_of c.args.table.now) _ e }
 
-pub returns-then-names-beyond : goal.returns-then-names-beyond
-returns-then-names-beyond c =
-    let e = verdict_by c.args.table.now false true _ _ (ne_eqb _ 0 (λ e. c.if-len-eq0.false (c.len.ensures ∙ e))) (sym c.if-names-beyond.ensures) refl refl in
+pub returns-then-names_beyond : goal.returns-then-names_beyond
+returns-then-names_beyond c =
+    let e = verdict_by c.args.table.now false true _ _ (ne_eqb _ 0 (λ e. c.if-len-eq0.false (c.len.ensures ∙ e))) (sym c.if-names_beyond.ensures) refl refl in
     record { verdict = e; judged = judged_by (panel_of c.args.table.now) _ e }
 
-pub returns-then-is-external : goal.returns-then-is-external
-returns-then-is-external c =
-    let e = verdict_by c.args.table.now false false true _ (ne_eqb _ 0 (λ e. c.if-len-eq0.false (c.len.ensures ∙ e))) (sym c.if-names-beyond.ensures) (sym c.if-is-external.ensures) refl in
+pub returns-then-is_external : goal.returns-then-is_external
+returns-then-is_external c =
+    let e = verdict_by c.args.table.now false false true _ (ne_eqb _ 0 (λ e. c.if-len-eq0.false (c.len.ensures ∙ e))) (sym c.if-names_beyond.ensures) (sym c.if-is_external.ensures) refl in
     record { verdict = e; judged = judged_by (panel_of c.args.table.now) _ e }
 
-pub returns-then-any-apart : goal.returns-then-any-apart
-returns-then-any-apart c =
-    let e = verdict_by c.args.table.now false false false true (ne_eqb _ 0 (λ e. c.if-len-eq0.false (c.len.ensures ∙ e))) (sym c.if-names-beyond.ensures) (sym c.if-is-external.ensures) (sym (c.if-any-apart.ensures ∙ ap (λ (es : List EntryPoint). some_apart (of_entries es)) c.as-slice.ensures.value)) in
+pub returns-then-any_apart : goal.returns-then-any_apart
+returns-then-any_apart c =
+    let e = verdict_by c.args.table.now false false false true (ne_eqb _ 0 (λ e. c.if-len-eq0.false (c.len.ensures ∙ e))) (sym c.if-names_beyond.ensures) (sym c.if-is_external.ensures) (sym (c.if-any_apart.ensures ∙ ap (λ (es : List EntryPoint). some_apart (of_entries es)) c.as_slice.ensures.value)) in
     record { verdict = e; judged = judged_by (panel_of c.args.table.now) _ e }
 
 pub returns : goal.returns
 returns c =
-    let e = verdict_by c.args.table.now false false false false (ne_eqb _ 0 (λ e. c.if-len-eq0.false (c.len.ensures ∙ e))) (sym c.if-names-beyond.ensures) (sym c.if-is-external.ensures) (sym (c.if-any-apart.ensures ∙ ap (λ (es : List EntryPoint). some_apart (of_entries es)) c.as-slice.ensures.value)) in
+    let e = verdict_by c.args.table.now false false false false (ne_eqb _ 0 (λ e. c.if-len-eq0.false (c.len.ensures ∙ e))) (sym c.if-names_beyond.ensures) (sym c.if-is_external.ensures) (sym (c.if-any_apart.ensures ∙ ap (λ (es : List EntryPoint). some_apart (of_entries es)) c.as_slice.ensures.value)) in
     record { verdict = e; judged = judged_by (panel_of c.args.table.now) _ e }

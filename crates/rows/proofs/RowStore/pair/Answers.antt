@@ -9,7 +9,7 @@ pub returns-then-m-rows : goal.returns-then-m-rows
 returns-then-m-rows c =
     let s = c.args.self.now in
     let n = rows_of s.size s.numbers.now in
-    listed_by_place n s.numbers.now c.args.m c.args.d _ c.place-of.result (omega arith) refl (omega (arith, (stops n (in_row s.numbers.now c.args.m) 64 0 0).few)) c.place-of.ensures
+    listed_by_place n s.numbers.now c.args.m c.args.d _ c.place_of.result (omega arith) refl (omega (arith, (stops n (in_row s.numbers.now c.args.m) 64 0 0).few)) c.place_of.ensures
 
 pub returns-else-m-rows : goal.returns-else-m-rows
 returns-else-m-rows c =

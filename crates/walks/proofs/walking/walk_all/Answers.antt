@@ -11,8 +11,8 @@ loop-root-init g c =
     let n = g.G.Arcs.nodes c.args.arcs.now in
     (done, subst (λ ms. Marked n [] 0 ms) (sym (c.clear.ensures ∙ ap (λ k. replicate k false) c.requires.marks)) (blank n))
 
-pub walk-from-count-requires : goal.walk-from-count-requires
-walk-from-count-requires g c = record {
+pub walk_from-count-requires : goal.walk_from-count-requires
+walk_from-count-requires g c = record {
   root = All-get_or (λ x. x < g.G.Arcs.nodes c.args.arcs.now) c.args.roots.now c.loop-root.root-index 0 c.loop-root-test.true c.requires.roots;
   order = c.loop-root.auto.order ∙ c.requires.order;
   stack = c.loop-root.auto.stack ∙ c.requires.stack;

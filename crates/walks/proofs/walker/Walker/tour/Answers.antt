@@ -3,31 +3,23 @@ use Rattle.std.proofs.lemmas.List.{take_at, length-take-le}
 use Rattle.walks.specs.Walks.{has, Tour}
 use Rattle.walks.proofs.walker.Walker.tour.Goals as goal
 
-pub invariant-of-self : goal.invariant-of-self
-invariant-of-self g c =
+pub invariant_of-self : goal.invariant_of-self
+invariant_of-self g c =
     let s = c.args.self.now in
-    let os = c.walk-all-count.new.order in
-    let ms = c.walk-all-count.new.marks in
+    let os = c.walk_all-count.new.order in
+    let ms = c.walk_all-count.new.marks in
     let o : length os ≡ s.order.len = search rules in
     let m : length ms ≡ s.marks.len = search rules in
-    let few : c.walk-all-count.result ≤ s.nodes = omega (arith, c.walk-all-count.ensures.few, c.requires.sized) in (
-      s.order_long,
-      (
-        s.marks_long,
-        (
-          s.stack_long,
-          (
-            few,
-            (
-              λ k. ap (λ (u : List Bool). get_or u k false) (take_at ms (drop (length ms) s.marks.items) s.marks.len m)
-                  ∙ c.walk-all-count.ensures.told k
-                  ∙ ap (λ (u : List ℕ). has (take c.walk-all-count.result u) k) (sym (take_at os (drop (length os) s.order.items) s.order.len o)),
-              tt,
-            ),
-          ),
-        ),
-      ),
-    )
+    let few : c.walk_all-count.result ≤ s.nodes = omega (arith, c.walk_all-count.ensures.few, c.requires.sized) in
+    record {
+      order_long = s.order_long;
+      marks_long = s.marks_long;
+      stack_long = s.stack_long;
+      taken_few = few;
+      told = λ k. ap (λ (u : List Bool). get_or u k false) (take_at ms (drop (length ms) s.marks.items) s.marks.len m)
+          ∙ c.walk_all-count.ensures.told k
+          ∙ ap (λ (u : List ℕ). has (take c.walk_all-count.result u) k) (sym (take_at os (drop (length os) s.order.items) s.order.len o));
+    }
 
 pub returns : goal.returns
 returns g c =
