@@ -7,9 +7,9 @@ use Rattle.lines.proofs.write_chunk.Goals as goal
 
 pub returns : goal.returns
 returns c =
-    let room = leb-true _ _ (sym c.if-not-has-room.ensures.room) in
+    let room = leb-true _ _ (sym c.if-not-has_room.ensures.room) in
     let out = c.args.out.now in
     let ms = c.args.roll.now in
     let long = length_chunk c.args.chunk.now c.args.roll.now in
-    let p2 = put_more out c.put-head.new.out c.put-modules.new.out 0 28 (head_text c.args.chunk.now) (digits 4 (length ms) ++ modules_text ms) (omega arith) refl c.put-head.ensures c.put-modules.ensures in
-    written_all (chunk_line c.args.chunk.now c.args.roll.now) out c.put-modules.new.out _ (omega arith) (omega arith) p2
+    let p2 = put_more out c.put_head.new.out c.put_modules.new.out 0 28 (head_text c.args.chunk.now) (digits 4 (length ms) ++ modules_text ms) (omega arith) refl c.put_head.ensures c.put_modules.ensures in
+    written_all (chunk_line c.args.chunk.now c.args.roll.now) out c.put_modules.new.out _ (omega arith) (omega arith) p2

@@ -5,61 +5,61 @@ use Rattle.frames.proofs.Letters.{lettered_as}
 use Rattle.frames.proofs.Texts.{rest_draws}
 use Rattle.frames.proofs.fields.read_fields.Goals as goal
 
-pub read-options-requires : goal.read-options-requires
-read-options-requires c =
+pub read_options-requires : goal.read_options-requires
+read_options-requires c =
     let h = lettered_as c.args.line.now c.args.letter 71 c.requires c.in-G.is in
     record { bytes = h.decodes; count = eqb-true _ 4 h.count }
 
-pub read-module-requires : goal.read-module-requires
-read-module-requires c =
+pub read_module-requires : goal.read_module-requires
+read_module-requires c =
     let h = lettered_as c.args.line.now c.args.letter 77 c.requires c.in-M.is in
     record { bytes = h.decodes; count = leb-true 7 _ h.count }
 
-pub read-import-record-requires : goal.read-import-record-requires
-read-import-record-requires c =
+pub read_import_record-requires : goal.read_import_record-requires
+read_import_record-requires c =
     let h = lettered_as c.args.line.now c.args.letter 82 c.requires c.in-R.is in
     record { bytes = h.decodes; count = eqb-true _ 4 h.count }
 
-pub module-at-requires : goal.module-at-requires
-module-at-requires c =
+pub module_at-requires : goal.module_at-requires
+module_at-requires c =
     let h = lettered_as c.args.line.now c.args.letter 83 c.requires c.in-S.is in
     record { bytes = h.decodes; count = omega (arith, eqb-true _ 3 h.count) }
 
-pub read-entry-requires : goal.read-entry-requires
-read-entry-requires c =
+pub read_entry-requires : goal.read_entry-requires
+read_entry-requires c =
     let h = lettered_as c.args.line.now c.args.letter 69 c.requires c.in-E.is in
     record { bytes = h.decodes; count = eqb-true _ 4 h.count }
 
-pub module-at-requires-in-L : goal.module-at-requires-in-L
-module-at-requires-in-L c =
+pub module_at-requires-in-L : goal.module_at-requires-in-L
+module_at-requires-in-L c =
     let h = lettered_as c.args.line.now c.args.letter 76 c.requires c.in-L.is in
     record { bytes = h.decodes; count = omega (arith, eqb-true _ 5 h.count) }
 
-pub module-at-requires-in-L-2 : goal.module-at-requires-in-L-2
-module-at-requires-in-L-2 c =
+pub module_at-requires-in-L-2 : goal.module_at-requires-in-L-2
+module_at-requires-in-L-2 c =
     let h = lettered_as c.args.line.now c.args.letter 76 c.requires c.in-L.is in
     record { bytes = h.decodes; count = omega (arith, eqb-true _ 5 h.count) }
 
-pub module-at-requires-in-U : goal.module-at-requires-in-U
-module-at-requires-in-U c =
+pub module_at-requires-in-U : goal.module_at-requires-in-U
+module_at-requires-in-U c =
     let h = lettered_as c.args.line.now c.args.letter 85 c.requires c.in-U.is in
     record { bytes = h.decodes; count = omega (arith, eqb-true _ 5 h.count) }
 
-pub module-at-requires-in-U-2 : goal.module-at-requires-in-U-2
-module-at-requires-in-U-2 c =
+pub module_at-requires-in-U-2 : goal.module_at-requires-in-U-2
+module_at-requires-in-U-2 c =
     let h = lettered_as c.args.line.now c.args.letter 85 c.requires c.in-U.is in
     record { bytes = h.decodes; count = omega (arith, eqb-true _ 5 h.count) }
 
-pub module-at-requires-in-I : goal.module-at-requires-in-I
-module-at-requires-in-I c =
+pub module_at-requires-in-I : goal.module_at-requires-in-I
+module_at-requires-in-I c =
     let h = lettered_as c.args.line.now c.args.letter 73 c.requires c.in-I.is in
     record { bytes = h.decodes; count = omega (arith, eqb-true _ 3 h.count) }
 
-pub module-at-requires-in-X : goal.module-at-requires-in-X
-module-at-requires-in-X c =
+pub module_at-requires-in-X : goal.module_at-requires-in-X
+module_at-requires-in-X c =
     let h = lettered_as c.args.line.now c.args.letter 88 c.requires c.in-X.is in
     record { bytes = h.decodes; count = omega (arith, eqb-true _ 3 h.count) }
 
-pub returns-in-default : goal.returns-in-default
-returns-in-default c =
+pub returns-in_default : goal.returns-in_default
+returns-in_default c =
     rest_draws c.args.letter c.args.line.now (bytes_of c.args.line.now) (omega arith) (omega arith) (omega arith) (omega arith) (omega arith) (omega arith) (omega arith) (omega arith) (omega arith)

@@ -7,8 +7,8 @@ use Rattle.frames.proofs.fields.read_import_record.Goals.{then-module, else-modu
 pub returns : goal.returns
 returns c =
     let bytes = bytes_of c.args.line.now in
-    let m : c.if-module.resolved-module ≡ resolved bytes 2 = elim c.if-module.branch [
-      | then-module w ↦ w.resolved-module-is ∙ resolved_none bytes c.module-at-module.result c.module-at-module.ensures w.if-module.true
-      | else-module w ↦ w.resolved-module-is ∙ resolved_some bytes c.module-at-module.result c.module-at-module.ensures w.if-module.false
+    let m : c.if-module.resolved_module ≡ resolved bytes 2 = elim c.if-module.branch [
+      | then-module w ↦ w.resolved_module-is ∙ resolved_none bytes c.module_at-module.result c.module_at-module.ensures w.if-module.true
+      | else-module w ↦ w.resolved_module-is ∙ resolved_some bytes c.module_at-module.result c.module_at-module.ensures w.if-module.false
     ] in
-    record_read bytes c.field.result c.in-Some.kind c.if-module.resolved-module c.field.ensures.value c.in-Some.ensures m
+    record_read bytes c.field.result c.in-Some.kind c.if-module.resolved_module c.field.ensures.value c.in-Some.ensures m

@@ -5,11 +5,11 @@ use Rattle.frames.proofs.Decoded.{line_length}
 use Rattle.frames.proofs.Texts.{module_read}
 use Rattle.frames.proofs.fields.read_module.Goals as goal
 
-pub slice-bounds-result-count : goal.slice-bounds-result-count
-slice-bounds-result-count c = omega (arith, line_length c.args.line.now c.requires.bytes)
+pub slice_bounds-result-count : goal.slice_bounds-result-count
+slice_bounds-result-count c = omega (arith, line_length c.args.line.now c.requires.bytes)
 
-pub slice-bounds-result-start : goal.slice-bounds-result-start
-slice-bounds-result-start c = omega (arith, line_length c.args.line.now c.requires.bytes)
+pub slice_bounds-result-start : goal.slice_bounds-result-start
+slice_bounds-result-start c = omega (arith, line_length c.args.line.now c.requires.bytes)
 
 pub returns : goal.returns
 returns c =

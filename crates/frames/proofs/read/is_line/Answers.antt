@@ -12,14 +12,14 @@ returns-then-line-lt1 c = elim c.then-line-lt1.branch [
   | then-line-lt1-via-else-line-lt1+else-line-gt512+then-line-ne0 w ↦ sym (line_odd c.args.line.now w.if-line-ne0.true)
 ]
 
-pub returns-then-is-none : goal.returns-then-is-none
-returns-then-is-none c =
-    let none = ap is_some (sym c.digit-value.ensures) ∙ c.if-is-none.ensures in
+pub returns-then-is_none : goal.returns-then-is_none
+returns-then-is_none c =
+    let none = ap is_some (sym c.digit_value.ensures) ∙ c.if-is_none.ensures in
     sym (line_bad c.args.line.now (sym c.loop-b.invariant ∙ digits_stop c.args.line.now c.loop-b.b-index c.loop-b-test.true none))
 
 pub loop-b-preserved : goal.loop-b-preserved
 loop-b-preserved c =
-    let some = ap is_some (sym c.digit-value.ensures) ∙ c.if-is-none.ensures in
+    let some = ap is_some (sym c.digit_value.ensures) ∙ c.if-is_none.ensures in
     digits_more c.args.line.now c.loop-b.b-index c.loop-b-test.true some ∙ c.loop-b.invariant
 
 pub returns : goal.returns

@@ -6,4 +6,4 @@ use Rattle.frames.proofs.Spelling.{reads_what_is_spelled}
 use Rattle.frames.proofs.read.read_spelled.Goals as goal
 
 pub returns : goal.returns
-returns c = record { frame = c.read-any.ensures; spelled = subst (λ (r : Result Said Refusal). Reads c.args.line.now r) (sym c.read-any.ensures) (reads_what_is_spelled c.args.line.now) }
+returns c = record { frame = c.read_any.ensures; spelled = subst (λ (r : Result Said Refusal). Reads c.args.line.now r) (sym c.read_any.ensures) (reads_what_is_spelled c.args.line.now) }

@@ -30,18 +30,18 @@ loop-e-preserved g c =
     let mid = held (vec_items c.loop-e.sets.sets) in
     elim c.if-contains.branch [
       | then-contains w ↦
-          let new = held (vec_items w.put-column.new.self.sets) in
+          let new = held (vec_items w.put_column.new.self.sets) in
           let long : vec_len c.loop-e.sets.sets ≡ count p = c.loop-e.invariant.2 ∙ c.requires.long in
           let inside : k < length entries = omega (arith, c.loop-e-test.true, c.len-e-end.ensures, c.args.export.now.table.entries.ok.0) in (
-            ap size_of w.walker-is ∙ w.determine-reachable-modules-for-entry.ensures.size ∙ c.loop-e.invariant.0,
-            ap (λ (s : SetTable). s.entries) w.sets-is ∙ w.put-column.ensures.wide ∙ c.loop-e.invariant.1,
-            ap (λ (s : SetTable). vec_len s.sets) w.sets-is ∙ w.put-column.ensures.long ∙ c.loop-e.invariant.2,
+            ap size_of w.walker-is ∙ w.determine_reachable_modules_for_entry.ensures.size ∙ c.loop-e.invariant.0,
+            ap (λ (s : SetTable). s.entries) w.sets-is ∙ w.put_column.ensures.wide ∙ c.loop-e.invariant.1,
+            ap (λ (s : SetTable). vec_len s.sets) w.sets-is ∙ w.put_column.ensures.long ∙ c.loop-e.invariant.2,
             subst (λ (s : SetTable). Anew (k + 1) p q concern old (held (vec_items s.sets))) (sym w.sets-is)
-                (anew_more p q concern k old mid c.loop-e.invariant.3 w.index.result.now.«module».0 (vec_len c.loop-e.sets.sets) (has (taken_by w.determine-reachable-modules-for-entry.new.walker)) new
+                (anew_more p q concern k old mid c.loop-e.invariant.3 w.index.result.now.«module».0 (vec_len c.loop-e.sets.sets) (has (taken_by w.determine_reachable_modules_for_entry.new.walker)) new
                 (sym c.contains.ensures ∙ w.if-contains.true)
                 (start_at entries k w.index.result.now inside w.index.ensures)
-                w.determine-reachable-modules-for-entry.ensures.told
-                w.put-column.ensures.held
+                w.determine_reachable_modules_for_entry.ensures.told
+                w.put_column.ensures.held
                 (λ y v. omega (arith, open_below p q y (ends_open p q v), long))
                 (λ y h. held_past (vec_items c.loop-e.sets.sets) y k (omega (arith, h, c.loop-e.sets.sets.ok.0)))),
           )

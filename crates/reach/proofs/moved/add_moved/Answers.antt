@@ -6,7 +6,7 @@ use Rattle.reach.specs.Held.{held}
 use Rattle.reach.specs.Moved.{passing, differs}
 use Rattle.reach.proofs.Passes.{push_pass, push_shut}
 use Rattle.reach.proofs.moved.add_moved.Goals as goal
-use Rattle.reach.proofs.moved.add_moved.Goals.{then-is-moved, else-is-moved}
+use Rattle.reach.proofs.moved.add_moved.Goals.{then-is_moved, else-is_moved}
 
 pub loop-y-init : goal.loop-y-init
 loop-y-init c = (
@@ -22,20 +22,20 @@ loop-y-preserved c =
     let n = c.args.new.now.entries in
     let y = c.loop-y.y in
     let names = c.loop-y.names in
-    elim c.if-is-moved.branch [
-      | then-is-moved w ↦ (
-        omega (arith, ap vec_len w.names-is, w.push-reserved.ensures.len, c.loop-y.invariant.0),
-        ap vec_capacity w.names-is ∙ w.push-reserved.ensures.capacity ∙ c.loop-y.invariant.1,
+    elim c.if-is_moved.branch [
+      | then-is_moved w ↦ (
+        omega (arith, ap vec_len w.names-is, w.push_reserved.ensures.len, c.loop-y.invariant.0),
+        ap vec_capacity w.names-is ∙ w.push_reserved.ensures.capacity ∙ c.loop-y.invariant.1,
         ap (λ v. map number (vec_items v)) w.names-is
-            ∙ ap (map number) w.push-reserved.ensures.items
+            ∙ ap (map number) w.push_reserved.ensures.items
             ∙ map_push number (vec_items names) _
             ∙ ap (λ (l : List ℕ). l ++ y ∷ []) c.loop-y.invariant.2
-            ∙ push_pass (differs n old new) y (sym c.is-moved.ensures ∙ w.if-is-moved.true),
+            ∙ push_pass (differs n old new) y (sym c.is_moved.ensures ∙ w.if-is_moved.true),
       )
-      | else-is-moved w ↦ (
+      | else-is_moved w ↦ (
         omega (arith, ap vec_len w.names-is, c.loop-y.invariant.0),
         ap vec_capacity w.names-is ∙ c.loop-y.invariant.1,
-        ap (λ v. map number (vec_items v)) w.names-is ∙ c.loop-y.invariant.2 ∙ push_shut (differs n old new) y (sym c.is-moved.ensures ∙ w.if-is-moved.false),
+        ap (λ v. map number (vec_items v)) w.names-is ∙ c.loop-y.invariant.2 ∙ push_shut (differs n old new) y (sym c.is_moved.ensures ∙ w.if-is_moved.false),
       )
     ]
 

@@ -11,9 +11,9 @@ returns g c = λ e l h.
     let x = c.args.m.0 in
     ⊎_elim
     (λ q.
-    let r = or_parts (member c.starting-at-concern.result e) (member c.loading.result e) (sym (c.unite.ensures e) ∙ q) in
+    let r = or_parts (member c.starting_at-concern.result e) (member c.loading.result e) (sym (c.unite.ensures e) ∙ q) in
     inr (
-      (λ s. both_ways (member c.starting-at-concern.result e) r.0 (c.starting-at-concern.ensures e (omega (arith, l, entries_are d.export.table)) s)),
+      (λ s. both_ways (member c.starting_at-concern.result e) r.0 (c.starting_at-concern.ensures e (omega (arith, l, entries_are d.export.table)) s)),
       λ m i ld. ⊎_elim
           (λ y. absurd (both_ways (member c.loading.result e) r.1 (c.loading.ensures m e (omega (arith, i, count_is d.export.table, d.sets_long)) ld y)))
           (λ n. n)

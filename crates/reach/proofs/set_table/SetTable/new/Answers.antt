@@ -4,12 +4,12 @@ use Rattle.reach.specs.Held.{held}
 use Rattle.reach.proofs.Helds.{held_empty}
 use Rattle.reach.proofs.set_table.SetTable.new.Goals as goal
 
-pub invariant-of-result : goal.invariant-of-result
-invariant-of-result c = (λ y e h. ap (λ (l : List EntrySet). held l y e) (c.in-ok-sets.ensures.items-if-clones-equal (λ z q. q)) ∙ held_empty _ c.empty.result c.empty.ensures y e, tt)
+pub invariant_of-result : goal.invariant_of-result
+invariant_of-result c = record { within = λ y e h. ap (λ (l : List EntrySet). held l y e) (c.in_ok-sets.ensures.items_if_clones_equal (λ z q. q)) ∙ held_empty _ c.empty.result c.empty.ensures y e }
 
 pub returns : goal.returns
 returns c = record {
   wide = refl;
-  long = c.in-ok-sets.ensures.len;
-  empty = λ y e. ap (λ (l : List EntrySet). held l y e) (c.in-ok-sets.ensures.items-if-clones-equal (λ z q. q)) ∙ held_empty _ c.empty.result c.empty.ensures y e;
+  long = c.in_ok-sets.ensures.len;
+  empty = λ y e. ap (λ (l : List EntrySet). held l y e) (c.in_ok-sets.ensures.items_if_clones_equal (λ z q. q)) ∙ held_empty _ c.empty.result c.empty.ensures y e;
 }

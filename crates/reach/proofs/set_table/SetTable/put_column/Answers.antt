@@ -13,6 +13,6 @@ loop-y-preserved c =
       c.put.ensures.long ∙ c.loop-y.invariant.1,
       λ y k.
           c.put.ensures.held y k
-          ∙ ap (λ (b : Bool). cond (eqb y here && eqb k e) c.has-taken.result b) (c.loop-y.invariant.2 y k)
-          ∙ column_more y k here e (has (taken_by c.args.walker.now)) c.has-taken.result (held (vec_items c.args.self.now.sets) y k) c.has-taken.ensures,
+          ∙ ap (λ (b : Bool). cond (eqb y here && eqb k e) c.has_taken.result b) (c.loop-y.invariant.2 y k)
+          ∙ column_more y k here e (has (taken_by c.args.walker.now)) c.has_taken.result (held (vec_items c.args.self.now.sets) y k) c.has_taken.ensures,
     )
