@@ -8,6 +8,6 @@ use Rattle.panels.proofs.intake.Intake.take.Goals as goal
 pub returns-in-Listed : goal.returns-in-Listed
 returns-in-Listed c =
     let s = read_of c.args.self.now in
-    let t = listed_took s c.add-listed.result _ _ c.in-Listed.m c.add-listed.ensures.panel (ap (λ (i : Included). vec_items i.marks) c.add-listed.ensures.marks) in
+    let t = listed_took s c.add_listed.result _ _ c.in-Listed.m c.add_listed.ensures.panel (ap (λ (i : Included). vec_items i.marks) c.add_listed.ensures.marks) in
     let u = took_at _ _ _ _ _ (ap said c.in-Listed.is) t in
     record { answer = u.answer; after = u.after }

@@ -8,7 +8,7 @@ pub returns : goal.returns
 returns c line h =
     let s = read_of c.args.self.now.intake in
     let r = c.feed-answer.result in
-    let e : c.as-slice.result.now ≡ take 513 line = c.as-slice.ensures.value ∙ h in
+    let e : c.as_slice.result.now ≡ take 513 line = c.as_slice.ensures.value ∙ h in
     record {
       answer = subst (λ (v : Option Refusal). Answer v r) (ap (line_refusal s) e ∙ whole_refusal s line) c.feed-answer.ensures.answer;
       after = c.feed-answer.ensures.after ∙ ap (λ (x : Read). cond (is_ok r) x s) (ap (line_after s) e ∙ whole_after s line);

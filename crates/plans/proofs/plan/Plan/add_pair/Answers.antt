@@ -12,7 +12,7 @@ returns-in-Ok g c =
     let after = c.link.new.self in
     let m = c.args.m.0 in
     let d = c.args.d.0 in
-    let concern = member c.link-concern-concern.result in
+    let concern = member c.link_concern-concern.result in
     let edit = c.in-Ok.ensures in
     let renew = c.renew.ensures in
     record {
@@ -21,5 +21,5 @@ returns-in-Ok g c =
           accepts st (linking m d) concern (s.modules after) (s.loads after) before.«data» c.renew.new.self c.renew.result
           (sym edit.links.answer) edit.links.size refl refl
           (pair_graph (s.loads before.store) (s.loads after) before.«data» true m d edit.links.pairs)
-          (link_spared st m d concern c.link-concern-concern.ensures) renew.renewed renew.counted;
+          (link_spared st m d concern c.link_concern-concern.ensures) renew.renewed renew.counted;
     }

@@ -12,7 +12,7 @@ returns-in-Err g c = record {
 pub returns-in-Ok : goal.returns-in-Ok
 returns-in-Ok g c =
     let s = g.S.DependencyStore in
-    let found = c.in-default.ensures in
+    let found = c.in_default.ensures in
     record {
       answer = sym found.answer;
       judged = found.judged;
@@ -25,7 +25,7 @@ returns-in-Ok g c =
 
 pub returns-in-Err-new : goal.returns-in-Err-new
 returns-in-Err-new g c =
-    let found = c.in-default.ensures in
+    let found = c.in_default.ensures in
     record {
       answer = sym found.answer;
       judged = found.judged;

@@ -13,10 +13,10 @@ pub returns : goal.returns
 returns g c =
     let s = g.S.DependencyStore in
     let before = c.args.self.now in
-    let mid = c.put-mark.new.self in
+    let mid = c.put_mark.new.self in
     let m = c.args.m.0 in
-    let concern = member c.include-concern-concern.result in
-    let marked = c.put-mark.ensures in
+    let concern = member c.include_concern-concern.result in
+    let marked = c.put_mark.ensures in
     let renew = c.renew.ensures in
     let inside : m < count (panel_in before.«data») = omega (arith, c.if-m-len.false, c.len.ensures, ap (λ (t : Table). count (panel_of t)) c.table.ensures) in
     record {
@@ -26,5 +26,5 @@ returns g c =
           (mark_allowed (s.modules before.store) m (omega (arith, inside, st.sized, ap (λ (q : Panel). count q) st.panel)))
           refl (panels_same m true before.«data» mid marked) (sets_same m true before.«data» mid marked)
           (mark_graph (s.loads before.store) before.«data» mid m true inside marked)
-          (include_spared st m concern c.include-concern-concern.ensures) renew.renewed renew.counted;
+          (include_spared st m concern c.include_concern-concern.ensures) renew.renewed renew.counted;
     }

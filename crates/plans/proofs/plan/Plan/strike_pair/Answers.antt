@@ -12,7 +12,7 @@ returns-in-Ok g c =
     let after = c.unlink.new.self in
     let m = c.args.m.0 in
     let d = c.args.d.0 in
-    let concern = member c.unlink-concern-concern.result in
+    let concern = member c.unlink_concern-concern.result in
     let edit = c.in-Ok.ensures in
     let renew = c.renew.ensures in
     record {
@@ -21,5 +21,5 @@ returns-in-Ok g c =
           accepts st (unlinking m d) concern (s.modules after) (s.loads after) before.«data» c.renew.new.self c.renew.result
           (sym edit.unlinks.answer) edit.unlinks.size refl refl
           (pair_graph (s.loads before.store) (s.loads after) before.«data» false m d edit.unlinks.pairs)
-          (unlink_spared st m d concern c.unlink-concern-concern.ensures) renew.renewed renew.counted;
+          (unlink_spared st m d concern c.unlink_concern-concern.ensures) renew.renewed renew.counted;
     }
