@@ -12,17 +12,17 @@ use tables::refusal::Refusal;
 impl<S: DependencyStore> Plan<S> {
     // A plan of an export over a store, with the pairs as they are. All the memory that the plan will ever need is taken here.
     pub fn create(heap: Global, export: Export, store: S) -> Result<Plan<S>, Rejected<S>>
-        ensures answer { AnswersCreation (creation_answer (panel_of export.table) (modules store)) (cause_of result) }
-        ensures judged { CreationJudged (panel_of export.table) (modules store) (cause_of result) }
-        ensures made { Made modules loads export store result }
+        ensures answer { AnswersCreation (creation_answer (panel_of export.table) (S.modules store)) (cause_of result) }
+        ensures judged { CreationJudged (panel_of export.table) (S.modules store) (cause_of result) }
+        ensures made { Made S.modules S.loads export store result }
     {
         Self::made_of(heap, export, store)
     }
 
     fn made_of(heap: Global, export: Export, store: S) -> Result<Plan<S>, Rejected<S>>
-        ensures answer { AnswersCreation (creation_answer (panel_of export.table) (modules store)) (cause_of result) }
-        ensures judged { CreationJudged (panel_of export.table) (modules store) (cause_of result) }
-        ensures made { Made modules loads export store result }
+        ensures answer { AnswersCreation (creation_answer (panel_of export.table) (S.modules store)) (cause_of result) }
+        ensures judged { CreationJudged (panel_of export.table) (S.modules store) (cause_of result) }
+        ensures made { Made S.modules S.loads export store result }
     {
         if let Err(why) = judge(&export, &store) {
             return Err(Rejected {

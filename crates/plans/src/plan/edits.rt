@@ -11,32 +11,32 @@ use tables::refusal::Refusal;
 impl<S: DependencyStore> Plan<S> {
     // Module `m` loads `d` from now on.
     pub fn link(&mut self, m: ModuleIdx, d: ModuleIdx) -> Result<usize, Refusal>
-        ensures edited { EditedBy modules loads outside (linking m.0 d.0) self.old result self.new }
-        ensures lawful { Extends modules loads (linking m.0 d.0) self.old result self.new }
+        ensures edited { EditedBy S.modules S.loads S.outside (linking m.0 d.0) self.old result self.new }
+        ensures lawful { Extends S.modules S.loads (linking m.0 d.0) self.old result self.new }
     {
         self.add_pair(m, d)
     }
 
     // Module `m` loads `d` no more.
     pub fn unlink(&mut self, m: ModuleIdx, d: ModuleIdx) -> Result<usize, Refusal>
-        ensures edited { EditedBy modules loads outside (unlinking m.0 d.0) self.old result self.new }
-        ensures lawful { Extends modules loads (unlinking m.0 d.0) self.old result self.new }
+        ensures edited { EditedBy S.modules S.loads S.outside (unlinking m.0 d.0) self.old result self.new }
+        ensures lawful { Extends S.modules S.loads (unlinking m.0 d.0) self.old result self.new }
     {
         self.strike_pair(m, d)
     }
 
     // Module `m` is included from now on; it may be already.
     pub fn include(&mut self, m: ModuleIdx) -> Result<usize, Refusal>
-        ensures edited { EditedBy modules loads outside (including m.0) self.old result self.new }
-        ensures lawful { Extends modules loads (including m.0) self.old result self.new }
+        ensures edited { EditedBy S.modules S.loads S.outside (including m.0) self.old result self.new }
+        ensures lawful { Extends S.modules S.loads (including m.0) self.old result self.new }
     {
         self.set_mark(m)
     }
 
     // Module `m` is included no more; it may be so already.
     pub fn exclude(&mut self, m: ModuleIdx) -> Result<usize, Refusal>
-        ensures edited { EditedBy modules loads outside (excluding m.0) self.old result self.new }
-        ensures lawful { Extends modules loads (excluding m.0) self.old result self.new }
+        ensures edited { EditedBy S.modules S.loads S.outside (excluding m.0) self.old result self.new }
+        ensures lawful { Extends S.modules S.loads (excluding m.0) self.old result self.new }
     {
         self.clear_mark(m)
     }

@@ -10,8 +10,8 @@ use tables::refusal::Refusal;
 // The work of the four edits: which entries an edit can concern is told before it is made.
 impl<S: DependencyStore> Plan<S> {
     pub(crate) fn add_pair(&mut self, m: ModuleIdx, d: ModuleIdx) -> Result<usize, Refusal>
-        ensures edited { EditedBy modules loads outside (linking m.0 d.0) self.old result self.new }
-        ensures lawful { Extends modules loads (linking m.0 d.0) self.old result self.new }
+        ensures edited { EditedBy S.modules S.loads S.outside (linking m.0 d.0) self.old result self.new }
+        ensures lawful { Extends S.modules S.loads (linking m.0 d.0) self.old result self.new }
     {
         let concern = self.data.link_concern(m, d);
         match self.store.link(m, d) {
@@ -21,8 +21,8 @@ impl<S: DependencyStore> Plan<S> {
     }
 
     pub(crate) fn strike_pair(&mut self, m: ModuleIdx, d: ModuleIdx) -> Result<usize, Refusal>
-        ensures edited { EditedBy modules loads outside (unlinking m.0 d.0) self.old result self.new }
-        ensures lawful { Extends modules loads (unlinking m.0 d.0) self.old result self.new }
+        ensures edited { EditedBy S.modules S.loads S.outside (unlinking m.0 d.0) self.old result self.new }
+        ensures lawful { Extends S.modules S.loads (unlinking m.0 d.0) self.old result self.new }
     {
         let concern = self.data.unlink_concern(m, d);
         match self.store.unlink(m, d) {
@@ -32,8 +32,8 @@ impl<S: DependencyStore> Plan<S> {
     }
 
     pub(crate) fn set_mark(&mut self, m: ModuleIdx) -> Result<usize, Refusal>
-        ensures edited { EditedBy modules loads outside (including m.0) self.old result self.new }
-        ensures lawful { Extends modules loads (including m.0) self.old result self.new }
+        ensures edited { EditedBy S.modules S.loads S.outside (including m.0) self.old result self.new }
+        ensures lawful { Extends S.modules S.loads (including m.0) self.old result self.new }
     {
         if m.0 as usize >= self.data.table().len() {
             return Err(Refusal::ModuleOutOfRange);
@@ -44,8 +44,8 @@ impl<S: DependencyStore> Plan<S> {
     }
 
     pub(crate) fn clear_mark(&mut self, m: ModuleIdx) -> Result<usize, Refusal>
-        ensures edited { EditedBy modules loads outside (excluding m.0) self.old result self.new }
-        ensures lawful { Extends modules loads (excluding m.0) self.old result self.new }
+        ensures edited { EditedBy S.modules S.loads S.outside (excluding m.0) self.old result self.new }
+        ensures lawful { Extends S.modules S.loads (excluding m.0) self.old result self.new }
     {
         if m.0 as usize >= self.data.table().len() {
             return Err(Refusal::ModuleOutOfRange);

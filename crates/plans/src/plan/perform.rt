@@ -11,13 +11,13 @@ use stores::store::DependencyStore;
 impl<S: DependencyStore> Plan<S> {
     // Makes the edits in turn, whatever each is answered: from any history that the plan accounts for it comes to one with calls for just these edits on top.
     pub fn perform(&mut self, edits: &[Edit])
-        ensures { (p : Panel) (g : Graph) (h : History) → Accounts modules loads p g h self.old → (t : History) × (Asked edits.now t × Accounts modules loads p g (t ++ h) self.new) }
+        ensures { (p : Panel) (g : Graph) (h : History) → Accounts S.modules S.loads p g h self.old → (t : History) × (Asked edits.now t × Accounts S.modules S.loads p g (t ++ h) self.new) }
     {
         self.make_all(edits);
     }
 
     fn make_all(&mut self, edits: &[Edit])
-        ensures { (p : Panel) (g : Graph) (h : History) → Accounts modules loads p g h self.old → (t : History) × (Asked edits.now t × Accounts modules loads p g (t ++ h) self.new) }
+        ensures { (p : Panel) (g : Graph) (h : History) → Accounts S.modules S.loads p g h self.old → (t : History) × (Asked edits.now t × Accounts S.modules S.loads p g (t ++ h) self.new) }
     {
         for e in edits {
             match *e {

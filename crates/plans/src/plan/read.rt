@@ -19,7 +19,7 @@ impl<S: DependencyStore> Plan<S> {
     // The modules that the last accepted edit moved, ascending.
     pub fn moved(&self) -> &[ModuleIdx]
         ensures names { map number result.now ≡ names_in self.now.data }
-        ensures lawful { (p : Panel) (g : Graph) (h : History) → Accounts modules loads p g h self.now → map number result.now ≡ last_named h }
+        ensures lawful { (p : Panel) (g : Graph) (h : History) → Accounts S.modules S.loads p g h self.now → map number result.now ≡ last_named h }
     {
         self.data.moved()
     }
@@ -27,7 +27,7 @@ impl<S: DependencyStore> Plan<S> {
     // The entries that reach a module; none for a number that no module has.
     pub fn set_of(&self, m: ModuleIdx) -> EntrySet
         ensures members { (e : ℕ) → member result e ≡ sets_in self.now.data m.0 e }
-        ensures lawful { (p : Panel) (g : Graph) (h : History) → Accounts modules loads p g h self.now → (e : ℕ) → Decides (member result e) (Reaches p (book g h) e m.0) }
+        ensures lawful { (p : Panel) (g : Graph) (h : History) → Accounts S.modules S.loads p g h self.now → (e : ℕ) → Decides (member result e) (Reaches p (book g h) e m.0) }
     {
         self.now_of(m)
     }
@@ -35,7 +35,7 @@ impl<S: DependencyStore> Plan<S> {
     // The entries that reached a module before the last accepted edit.
     pub fn earlier_set_of(&self, m: ModuleIdx) -> EntrySet
         ensures members { (e : ℕ) → member result e ≡ earlier_in self.now.data m.0 e }
-        ensures lawful { (p : Panel) (g : Graph) (h : History) → Accounts modules loads p g h self.now → (e : ℕ) → Decides (member result e) (Reaches p (earlier_book g h) e m.0) }
+        ensures lawful { (p : Panel) (g : Graph) (h : History) → Accounts S.modules S.loads p g h self.now → (e : ℕ) → Decides (member result e) (Reaches p (earlier_book g h) e m.0) }
     {
         self.before_of(m)
     }
@@ -43,14 +43,14 @@ impl<S: DependencyStore> Plan<S> {
     // Whether an entry reaches a module.
     pub fn reaches(&self, e: usize, m: ModuleIdx) -> bool
         ensures value { result ≡ sets_in self.now.data m.0 e }
-        ensures lawful { (p : Panel) (g : Graph) (h : History) → Accounts modules loads p g h self.now → Decides result (Reaches p (book g h) e m.0) }
+        ensures lawful { (p : Panel) (g : Graph) (h : History) → Accounts S.modules S.loads p g h self.now → Decides result (Reaches p (book g h) e m.0) }
     {
         self.is_reached(e, m)
     }
 
     pub fn is_included(&self, m: ModuleIdx) -> bool
         ensures value { result ≡ slice_index_or (marks_in self.now.data) m.0 false }
-        ensures lawful { (p : Panel) (g : Graph) (h : History) → Accounts modules loads p g h self.now → result ≡ (book g h).included m.0 }
+        ensures lawful { (p : Panel) (g : Graph) (h : History) → Accounts S.modules S.loads p g h self.now → result ≡ (book g h).included m.0 }
     {
         self.is_marked(m)
     }
@@ -79,28 +79,28 @@ impl<S: DependencyStore> Plan<S> {
 
     fn now_of(&self, m: ModuleIdx) -> EntrySet
         ensures members { (e : ℕ) → member result e ≡ sets_in self.now.data m.0 e }
-        ensures lawful { (p : Panel) (g : Graph) (h : History) → Accounts modules loads p g h self.now → (e : ℕ) → Decides (member result e) (Reaches p (book g h) e m.0) }
+        ensures lawful { (p : Panel) (g : Graph) (h : History) → Accounts S.modules S.loads p g h self.now → (e : ℕ) → Decides (member result e) (Reaches p (book g h) e m.0) }
     {
         self.data.set_of(m)
     }
 
     fn before_of(&self, m: ModuleIdx) -> EntrySet
         ensures members { (e : ℕ) → member result e ≡ earlier_in self.now.data m.0 e }
-        ensures lawful { (p : Panel) (g : Graph) (h : History) → Accounts modules loads p g h self.now → (e : ℕ) → Decides (member result e) (Reaches p (earlier_book g h) e m.0) }
+        ensures lawful { (p : Panel) (g : Graph) (h : History) → Accounts S.modules S.loads p g h self.now → (e : ℕ) → Decides (member result e) (Reaches p (earlier_book g h) e m.0) }
     {
         self.data.earlier_set_of(m)
     }
 
     fn is_reached(&self, e: usize, m: ModuleIdx) -> bool
         ensures value { result ≡ sets_in self.now.data m.0 e }
-        ensures lawful { (p : Panel) (g : Graph) (h : History) → Accounts modules loads p g h self.now → Decides result (Reaches p (book g h) e m.0) }
+        ensures lawful { (p : Panel) (g : Graph) (h : History) → Accounts S.modules S.loads p g h self.now → Decides result (Reaches p (book g h) e m.0) }
     {
         self.data.set_of(m).contains(e)
     }
 
     fn is_marked(&self, m: ModuleIdx) -> bool
         ensures value { result ≡ slice_index_or (marks_in self.now.data) m.0 false }
-        ensures lawful { (p : Panel) (g : Graph) (h : History) → Accounts modules loads p g h self.now → result ≡ (book g h).included m.0 }
+        ensures lawful { (p : Panel) (g : Graph) (h : History) → Accounts S.modules S.loads p g h self.now → result ≡ (book g h).included m.0 }
     {
         self.data.is_included(m)
     }
