@@ -1,6 +1,6 @@
 -- One turn of the walk's loop, over the arrays as the code holds them.
 use Rattle.std.proofs.Common.{◌≡◌, ℕ, zero, suc, ◌+◌, ◌-◌, ◌<◌, ◌≤◌, Bool, true, false, eqb, List, [], ◌∷◌, ◌++◌, length, get_or, take, set, replicate, sym, refl, ap, ◌∙◌, subst, ⊎_elim, arith}
-use Rattle.std.specs.List.{AllByRecursion as All}
+use Rattle.std.specs.List.{AllByRecursion}
 use Rattle.std.proofs.lemmas.List.{length-replicate, get_or-replicate, length-append, length-set, take_more, take_more_set, take-set, get_or_past}
 use Rattle.std.proofs.lemmas.Bool.{cases_lt, ne_eqb, or_from}
 use Rattle.walks.specs.Walks.{has, Walk, Marked, Entered, owing}
@@ -190,6 +190,6 @@ told {n} {c} {t} {ms} m k = ⊎_elim
     (λ (h : n ≤ k). let l : length ms ≤ k = omega (arith, m.long) in get_or_past ms k false l ∙ sym (none t m.inside h))
     (cases_lt k n)
   where
-    none : (xs : List ℕ) → All (λ x. x < n) xs → n ≤ k → has xs k ≡ false
+    none : (xs : List ℕ) → AllByRecursion (λ x. x < n) xs → n ≤ k → has xs k ≡ false
     none [] a h = refl
     none (x ∷ xs) a h = or_from (eqb x k) (has xs k) (ne_eqb x k (λ e. omega (arith, a.0, e))) (none xs a.1 h)

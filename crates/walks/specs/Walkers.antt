@@ -1,6 +1,6 @@
 -- What a walker has taken, and what a walk with it answers.
 use Rattle.std.specs.Prelude.{◌≡◌, ℕ, ◌<◌, List, length, take, Some, None, vec_items, Option}
-use Rattle.std.specs.List.{AllByRecursion as All}
+use Rattle.std.specs.List.{AllByRecursion}
 use Rattle.walks.specs.declared.walker.Walker.{Walker}
 use Rattle.walks.specs.Walks.{Tour}
 
@@ -14,7 +14,7 @@ taken_by w = take w.taken (vec_items w.order)
 
 -- The roots are all below n, and the walker's size is n.
 pub record Fit (n : ℕ) (roots : List ℕ) (size : ℕ) : Type 0 where
-  pub in_range : All (λ x. x < n) roots
+  pub in_range : AllByRecursion (λ x. x < n) roots
   pub sized : size ≡ n
 
 -- What a walk over n nodes answers: nothing where the roots and the walker do not fit n, and the walker is then as before, else how many nodes the walk took, and the walker has them.

@@ -1,5 +1,5 @@
 use Rattle.std.specs.Prelude.{◌≡◌, ℕ, ◌+◌, ◌<◌, Bool, true, false, ◌||◌, List, [], ◌∷◌, ◌++◌, length, Some, None, Option, ◌==◌, slice_index_or, slice_set}
-use Rattle.std.specs.List.{AllByRecursion as All}
+use Rattle.std.specs.List.{AllByRecursion}
 
 -- whether a list of numbers holds a number
 abbrev pub has : List ℕ → ℕ → Bool
@@ -33,7 +33,7 @@ pub record Marked (n : ℕ) (t : List ℕ) (taken : ℕ) (marks : List Bool) : T
   pub long : length marks ≡ n
   pub tell : (k : ℕ) → k < n → slice_index_or marks k false ≡ has t k
   pub count : taken + owing (λ _. 1) 0 marks ≡ n
-  pub inside : All (λ x. x < n) t
+  pub inside : AllByRecursion (λ x. x < n) t
 
 -- What is left after a try to take the node y, the c-th to be taken, with d frames on the stack. Where y was not marked, it is marked then, and stands in the order and, with the cursor 0, on the stack. Else nothing is changed.
 abbrev pub Entered : (y c d : ℕ) (marks marks' : List Bool) (order order' : List ℕ) (stack stack' : List (ℕ × ℕ)) → Bool → Type 0

@@ -1,5 +1,5 @@
 ghost use Rattle.std.specs.Prelude.{◌≡◌, ℕ, ◌<◌, ◌≤◌, true, false, [], ◌∷◌, length, get_or, take, replicate, IfOk, vec_len, slice_index_or, slice_set};
-ghost use Rattle.std.specs.List.{AllByRecursion as All};
+ghost use Rattle.std.specs.List.{AllByRecursion};
 ghost use Rattle.walks.specs.Walks.{has, Walk, Marked, Entered, Tour};
 ghost use Rattle.walks.specs.Walkers.{size_of, taken_by, Fit, Walked};
 
@@ -95,8 +95,8 @@ fn marked(marks: &[bool], node: usize) -> bool
 
 // Whether each of `xs` is below `n`.
 fn all_below(xs: &[usize], n: usize) -> bool
-    ensures yes { result ≡ true → All (λ x. x < n) xs.now }
-    ensures no { result ≡ false → All (λ x. x < n) xs.now → ⊥ }
+    ensures yes { result ≡ true → AllByRecursion (λ x. x < n) xs.now }
+    ensures no { result ≡ false → AllByRecursion (λ x. x < n) xs.now → ⊥ }
 {
     for x in xs {
         if *x >= n {
@@ -115,7 +115,7 @@ fn walk_all<G: Arcs>(
     marks: &mut [bool],
     stack: &mut [(usize, usize)],
 ) -> usize
-    requires roots { All (λ x. x < G.Arcs.nodes arcs.now) roots.now }
+    requires roots { AllByRecursion (λ x. x < G.Arcs.nodes arcs.now) roots.now }
     requires order { length order.old ≡ G.Arcs.nodes arcs.now }
     requires marks { length marks.old ≡ G.Arcs.nodes arcs.now }
     requires stack { length stack.old ≡ G.Arcs.nodes arcs.now }

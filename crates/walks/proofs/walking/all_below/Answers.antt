@@ -1,5 +1,5 @@
 use Rattle.std.proofs.Common.{◌<◌, sym, subst, arith}
-use Rattle.std.specs.List.{AllByRecursion as All}
+use Rattle.std.specs.List.{AllByRecursion}
 use Rattle.std.proofs.lemmas.List.{take_all}
 use Rattle.std.proofs.ByRecursion.{All-get_or, All-more}
 use Rattle.std.proofs.lemmas.Bool.{true≢false}
@@ -16,6 +16,6 @@ loop-x-preserved c = All-more (λ x. x < c.args.n) c.args.xs.now c.loop-x.x-inde
 
 pub returns : goal.returns
 returns c = record {
-  yes = λ e. subst (λ xs. All (λ x. x < c.args.n) xs) (take_all c.loop-x.x-index c.args.xs.now c.loop-x-test.false) c.loop-x.invariant;
+  yes = λ e. subst (λ xs. AllByRecursion (λ x. x < c.args.n) xs) (take_all c.loop-x.x-index c.args.xs.now c.loop-x-test.false) c.loop-x.invariant;
   no = λ e a. absurd (true≢false e);
 }
