@@ -121,7 +121,7 @@ number_below n (a ∷ (b ∷ rest)) bytes e =
     let power = ap (λ m. (n + 1) * m) (pow-succ' 256 (length p.1)) in
     rw parts (omega arith)
 
--- a big_endian number of k bytes is below 256 ^ k
+-- a big-endian number of k bytes is below 256 ^ k
 pub big_endian_below : (line bytes : List ℕ) → bytes_in line ≡ Some bytes → big_endian bytes < 256 ^ length bytes
 big_endian_below line bytes e = omega (arith, number_below 0 line bytes e)
 

@@ -26,7 +26,7 @@ abbrev pub number_after : ℕ → ℕ → List ℕ → ℕ
 number_after base n [] = n
 number_after base n (v ∷ vs) = number_after base (base * n + v) vs
 
--- big_endian bytes as a number
+-- big-endian bytes as a number
 abbrev pub big_endian : List ℕ → ℕ
 big_endian bytes = number_after 256 0 bytes
 

@@ -1,6 +1,6 @@
 -- What a table means once a list of it has one thing more.
-use Rattle.std.proofs.Common.{◌≡◌, ℕ, suc, ◌+◌, ◌-◌, ◌<◌, ◌≤◌, Bool, true, false, cond, List, [], ◌∷◌, ◌++◌, map, length, get_or, take, drop, set, sym, refl, ap, ◌∙◌, subst, arith}
-use Rattle.std.proofs.lemmas.List.{map_push, length-append, length_push, length-map, length-set}
+use Rattle.std.proofs.Common.{◌≡◌, ℕ, suc, ◌+◌, ◌-◌, ◌≤◌, Bool, true, false, cond, List, [], ◌∷◌, ◌++◌, map, length, get_or, take, drop, set, sym, refl, ap, ◌∙◌, subst, arith}
+use Rattle.std.proofs.lemmas.List.{map_push, length-append, length_push, length-set}
 use Rattle.tables.specs.declared.index.ModuleIdx.{ModuleIdx}
 use Rattle.tables.specs.declared.module.EntryPoint.{EntryPoint}
 use Rattle.tables.specs.declared.module.ImportRecord.{ImportRecord}
@@ -8,12 +8,12 @@ use Rattle.tables.specs.declared.module.Module.{Module}
 use Rattle.tables.specs.declared.module.ModuleFlags.{ModuleFlags}
 use Rattle.tables.specs.declared.module.Options.{Options}
 use Rattle.tables.specs.declared.module.Span.{Span}
-use Rattle.tables.specs.Panel.{Panel, PanelEntry, PanelModule, PanelImport}
+use Rattle.tables.specs.Panel.{Panel, PanelEntry, PanelModule}
 use Rattle.tables.specs.Spans.{cut, tiled}
 use Rattle.exports.specs.Steps.{with_module, with_modules, new_module, with_import, with_entry, with_listed}
 use Rattle.tables.specs.View.{panel_from, module_of, entry_of, import_of, number}
 use Rattle.tables.proofs.Tiles.{tiled_push, cut_kept, cut_new}
-use Rattle.exports.proofs.Views.{Extends, modules_kept, module_same, stretched, latest_stretched, ids_stretched, records_stretched}
+use Rattle.exports.proofs.Views.{modules_kept, stretched, latest_stretched, ids_stretched, records_stretched}
 
 sub_self : (n : ℕ) → n - n ≡ 0
 sub_self n = omega arith

@@ -1,18 +1,17 @@
 -- A table's check against the panel that it means.
-use Rattle.std.proofs.Common.{◌≡◌, ℕ, zero, suc, ◌+◌, ◌-◌, ◌<◌, ◌≤◌, Bool, true, false, cond, not, ◌&&◌, ◌||◌, eqb, leb, List, [], ◌∷◌, ◌++◌, map, length, get_or, take, drop, Ok, Err, vec_items, Result, sym, refl, ap, ◌∙◌, arith}
+use Rattle.std.proofs.Common.{◌≡◌, ℕ, ◌-◌, ◌<◌, Bool, false, cond, not, ◌&&◌, ◌||◌, eqb, leb, List, [], ◌∷◌, ◌++◌, map, length, get_or, take, Ok, Err, vec_items, Result, sym, refl, ap, ◌∙◌, arith}
 use Rattle.std.specs.Option.{option_map, option_to_list}
 use Rattle.std.specs.List.{flat_map}
 use Rattle.std.proofs.lemmas.List.{length-map, get_or-map, take-map}
 use Rattle.tables.specs.declared.module.EntryPoint.{EntryPoint}
-use Rattle.tables.specs.declared.module.ImportRecord.{ImportRecord}
 use Rattle.tables.specs.declared.module.EntryPointKind.TheVariants.{UserDefined}
 use Rattle.tables.specs.declared.table.Table.{Table}
 use Rattle.exports.specs.Beyond.{some_beyond}
 use Rattle.std.proofs.lemmas.Bool.{eq-eqb, ne_eqb}
 use Rattle.tables.specs.declared.refusal.Refusal.{Refusal}
 use Rattle.tables.specs.declared.refusal.Refusal.TheVariants.{Limit, ModuleOutOfRange, ExternalRuntime, EntryApart}
-use Rattle.exports.specs.Check.{some, some_below, named, resolved_numbers, apart_at, some_apart, verdict}
-use Rattle.tables.specs.Panel.{Panel, PanelModule, PanelImport, PanelEntry, count, external, starts}
+use Rattle.exports.specs.Check.{some, named, resolved_numbers, apart_at, some_apart, verdict}
+use Rattle.tables.specs.Panel.{PanelImport, count, external, starts}
 use Rattle.tables.specs.View.{panel_of, module_of, import_of, entry_of, number}
 use Rattle.exports.proofs.Somes.{some_append, some_map, some_joined}
 use Rattle.exports.proofs.Views.{all_records}

@@ -1,8 +1,6 @@
 -- The verdict's tests against what they ask.
-use Rattle.std.proofs.Common.{◌≡◌, ℕ, zero, suc, ◌+◌, ◌-◌, ◌<◌, ◌≤◌, Bool, true, false, not, ◌&&◌, ◌||◌, eqb, leb, ◌⊎◌, List, [], ◌∷◌, length, get_or, take, Result, sym, refl, ap, ◌∙◌, subst, inl, inr, ⊎_elim, arith}
-use Rattle.std.specs.List.{ContainsAt as Has}
+use Rattle.std.proofs.Common.{◌≡◌, ℕ, zero, suc, ◌+◌, ◌-◌, ◌<◌, ◌≤◌, Bool, true, false, not, eqb, leb, List, [], ◌∷◌, length, get_or, take, Result, sym, refl, ap, ◌∙◌, subst, ⊎_elim, arith}
 use Rattle.std.proofs.lemmas.List.{get_or-take, length-take}
-use Rattle.std.proofs.ByRecursion.{all-has}
 use Rattle.std.proofs.lemmas.Bool.{eqb-true, eqb-false, eq-eqb, ne_eqb, leb-true, leb-false, and_parts, and_from, not-true, not_from_false, or_cases, or_parts, both_ways, cases_eq, cases_lt, cases_Bool}
 use Rattle.tables.specs.declared.refusal.Refusal.{Refusal}
 use Rattle.exports.specs.Check.{some, some_below, named, apart_at, some_apart, verdict, Unknown, Apart, Judged, no_modules, out_of_range, external_runtime, entry_apart, fit}

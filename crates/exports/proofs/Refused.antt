@@ -1,13 +1,11 @@
 -- Why one thing more is refused, by the lengths of the table's lists.
-use Rattle.std.proofs.Common.{◌≡◌, ℕ, ◌+◌, ◌-◌, ◌<◌, ◌≤◌, Bool, true, false, cond, ◌&&◌, eqb, ltb, leb, List, [], ◌∷◌, map, length, Some, None, vec_items, Option, sym, refl, ap, ◌∙◌, subst, arith}
+use Rattle.std.proofs.Common.{◌≡◌, ℕ, true, List, map, length, vec_items, ap, ◌∙◌}
 use Rattle.std.proofs.lemmas.List.{length-map}
 use Rattle.tables.specs.declared.index.ModuleIdx.{ModuleIdx}
 use Rattle.tables.specs.declared.module.EntryPoint.{EntryPoint}
 use Rattle.tables.specs.declared.module.ImportRecord.{ImportRecord}
 use Rattle.tables.specs.declared.module.Module.{Module}
 use Rattle.tables.specs.declared.module.Options.{Options}
-use Rattle.tables.specs.declared.refusal.Refusal.{Refusal}
-use Rattle.tables.specs.declared.refusal.Refusal.TheVariants.{OutOfStage, Limit}
 use Rattle.exports.specs.Limits.{module_refusal, import_refusal, entry_refusal, listed_refusal, module_room, import_room, entry_room, listed_room, id_bytes, record_count}
 use Rattle.tables.specs.Spans.{tiled}
 use Rattle.tables.specs.declared.table.Table.{Table}

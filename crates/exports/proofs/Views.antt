@@ -1,9 +1,9 @@
 -- What a table means after one thing more.
-use Rattle.std.proofs.Common.{◌≡◌, ℕ, zero, suc, ◌+◌, ◌-◌, ◌<◌, ◌≤◌, Bool, true, false, List, [], ◌∷◌, ◌++◌, map, length, get_or, take, drop, set, sum_by, sym, refl, ap, ◌∙◌, subst, arith}
-use Rattle.std.specs.List.{flat_map, between}
+use Rattle.std.proofs.Common.{◌≡◌, ℕ, zero, suc, ◌+◌, ◌-◌, ◌≤◌, true, List, [], ◌∷◌, ◌++◌, map, length, get_or, drop, set, sum_by, sym, refl, ap, ◌∙◌, arith}
+use Rattle.std.specs.List.{flat_map}
 use Rattle.std.proofs.lemmas.List.Sums.{sum_by-cons}
 use Rattle.std.proofs.lemmas.Bool.{eqb-true, eq-eqb}
-use Rattle.std.proofs.lemmas.List.{length-append, length-map, map-append, map_push, map-set, set-get_or, get_or-map, append-nil, take-append-drop, drop-drop, drop_all}
+use Rattle.std.proofs.lemmas.List.{length-map, map-append, map_push, take-append-drop, drop-drop, drop_all}
 use Rattle.tables.specs.declared.module.Span.{Span}
 use Rattle.tables.specs.declared.module.Module.{Module}
 use Rattle.tables.specs.declared.module.ImportRecord.{ImportRecord}
@@ -11,7 +11,7 @@ use Rattle.tables.specs.Panel.{PanelModule, PanelImport}
 use Rattle.tables.specs.Spans.{cut, tiled}
 use Rattle.tables.specs.View.{module_of, import_of}
 use Rattle.exports.specs.Steps.{latest_with, with_record}
-use Rattle.tables.proofs.Tiles.{Within, First, tiled_first, tiled_cons, tiled_le, first_within, cut_kept, cut_new, cut_more, length_cut}
+use Rattle.tables.proofs.Tiles.{Within, First, tiled_first, tiled_cons, first_within, cut_kept, cut_more, length_cut}
 
 abbrev ids_of : List Module → List Span
 ids_of ms = map (λ m. m.id) ms

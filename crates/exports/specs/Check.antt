@@ -1,5 +1,5 @@
 -- What a finished panel is refused for, and in which order.
-use Rattle.std.specs.Prelude.{◌≡◌, ℕ, zero, suc, ◌-◌, ◌<◌, ◌≤◌, Bool, true, false, cond, not, ◌&&◌, ◌||◌, List, [], ◌∷◌, ◌++◌, map, length, take, Ok, Err, Result, ◌==◌, nat_eq, nat_le, slice_index, slice_index_or}
+use Rattle.std.specs.Prelude.{◌≡◌, ℕ, zero, suc, ◌-◌, ◌<◌, ◌≤◌, Bool, true, false, cond, not, ◌&&◌, ◌||◌, List, [], ◌∷◌, ◌++◌, length, take, Ok, Err, Result, ◌==◌, nat_eq, nat_le, slice_index, slice_index_or}
 use Rattle.std.specs.List.{flat_map, ContainsAt as Has}
 use Rattle.std.specs.Option.{option_to_list}
 use Rattle.tables.specs.declared.refusal.Refusal.{Refusal}

@@ -1,8 +1,8 @@
 -- The limits of a panel, and why one more thing is refused.
-use Rattle.std.specs.Prelude.{ℕ, ◌+◌, Bool, true, false, cond, ◌&&◌, List, length, Some, None, sum_by, Option, ◌==◌, nat_le, nat_lt}
+use Rattle.std.specs.Prelude.{ℕ, ◌+◌, cond, ◌&&◌, List, length, Some, None, sum_by, Option, ◌==◌, nat_le, nat_lt}
 use Rattle.tables.specs.declared.refusal.Refusal.{Refusal}
 use Rattle.tables.specs.declared.refusal.Refusal.TheVariants.{OutOfStage, Limit}
-use Rattle.tables.specs.Panel.{Panel, PanelModule, count}
+use Rattle.tables.specs.Panel.{Panel, count}
 
 -- the bytes of all ids
 abbrev pub id_bytes : Panel → ℕ

@@ -1,5 +1,5 @@
 -- The steps that build an export: what each adds, and how it is answered.
-use Rattle.std.specs.Prelude.{◌≡◌, ℕ, Bool, true, false, cond, List, [], ◌∷◌, ◌++◌, Some, None, Ok, Err, Option, Result}
+use Rattle.std.specs.Prelude.{◌≡◌, ℕ, List, [], ◌∷◌, ◌++◌, Some, None, Ok, Err, Option, Result}
 use Rattle.tables.specs.declared.refusal.Refusal.{Refusal}
 use Rattle.exports.specs.declared.export.BuildError.{BuildError}
 use Rattle.exports.specs.declared.export.BuildError.TheVariants.{Refused, OutOfMemory}

@@ -1,5 +1,5 @@
 -- What a line says: the text of each frame, by its bytes.
-use Rattle.std.specs.Prelude.{ℕ, ◌+◌, ◌-◌, ◌/◌, ◌%◌, ◌^◌, Bool, true, false, cond, ◌&&◌, List, [], length, drop, Some, None, Ok, Err, Option, Result, ◌==◌, nat_le, nat_lt, slice_index}
+use Rattle.std.specs.Prelude.{ℕ, ◌+◌, ◌/◌, ◌%◌, ◌^◌, Bool, true, false, cond, ◌&&◌, List, [], length, drop, Some, None, Ok, Err, Option, Result, ◌==◌, nat_le, nat_lt, slice_index}
 use Rattle.std.specs.List.{between}
 use Rattle.std.specs.Option.{unwrap_or}
 use Rattle.digits.specs.Digits.{big_endian, bytes_in}
@@ -76,7 +76,7 @@ fits c n =
     (cond (c == 88) (n == 3)  -- X: module
     (cond (c == 68) (n == 1) false)))))))))  -- D: nothing
 
--- the big_endian number in bytes i to j - 1
+-- the big-endian number in bytes i to j - 1
 abbrev pub field : List ℕ → ℕ → ℕ → ℕ
 field bytes i j = big_endian (between i j bytes)
 

@@ -1,5 +1,5 @@
 -- What each byte of the input does, by the line that it belongs to.
-use Rattle.std.specs.Prelude.{◌≡◌, ℕ, Bool, true, false, cond, List, [], ◌∷◌, ◌++◌, is_ok, Ok, Err, Result}
+use Rattle.std.specs.Prelude.{◌≡◌, ℕ, cond, List, [], ◌∷◌, ◌++◌, is_ok, Ok, Result}
 use Rattle.exports.specs.declared.export.BuildError.{BuildError}
 use Rattle.panels.specs.declared.session.Session.{Session}
 use Rattle.panels.specs.Held.{Holds}

@@ -1,5 +1,5 @@
 -- What each line makes of an export that is being read.
-use Rattle.std.specs.Prelude.{◌≡◌, ℕ, ◌+◌, min, Bool, true, false, cond, List, [], ◌∷◌, ◌++◌, Some, None, Ok, Err, vec_items, Option, Result}
+use Rattle.std.specs.Prelude.{◌≡◌, ℕ, ◌+◌, min, Bool, true, false, List, [], ◌∷◌, ◌++◌, Some, None, Ok, Err, vec_items, Option, Result}
 use Rattle.digits.specs.Digits.{bytes_in}
 use Rattle.exports.specs.Check.{verdict}
 use Rattle.exports.specs.Limits.{module_refusal, import_refusal, entry_refusal, listed_refusal}

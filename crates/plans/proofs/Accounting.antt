@@ -1,23 +1,17 @@
 -- How a plan comes to account for one call more.
-use Rattle.std.proofs.Common.{◌≡◌, ℕ, ◌+◌, ◌<◌, ◌≤◌, Bool, true, false, cond, not, ◌&&◌, eqb, ltb, ◌⊎◌, List, [], ◌∷◌, length, get_or, set, Ok, Err, vec_items, sym, refl, ap, ◌∙◌, subst, inl, inr, ⊎_elim, arith}
+use Rattle.std.proofs.Common.{◌≡◌, ℕ, ◌<◌, Bool, true, false, not, ◌&&◌, eqb, List, [], ◌∷◌, length, get_or, set, Ok, vec_items, sym, refl, ap, ◌∙◌, subst, inl, inr, ⊎_elim, arith}
 use mathlib.Core.Path.{fun_ext}
 use Rattle.std.proofs.lemmas.List.{get_or-set_same, get_or-set_other}
-use Rattle.std.proofs.lemmas.Bool.{both_ways, and_cases, not-false, cases_eq, eq-eqb, ne_eqb, cond-true, cond-false, lt-ltb, le-ltb}
+use Rattle.std.proofs.lemmas.Bool.{both_ways, and_cases, not-false, cases_eq, eq-eqb, ne_eqb, cond-true, cond-false}
 use Rattle.stores.specs.Pairs.{Pairs, changed}
-use Rattle.stores.specs.Answers.{Outcome, link_answer, unlink_answer}
 use Rattle.tables.specs.Panel.{Panel, count}
 use Rattle.tables.specs.Graph.{Graph, Path, start}
-use Rattle.tables.specs.Refusals.{number_of}
-use Rattle.tables.specs.declared.refusal.Refusal.{Refusal}
 use Rattle.walks.specs.Walks.{has}
 use Rattle.reach.specs.Data.{panel_in, marks_in, graph_in, sets_in, earlier_in, names_in, Settled, Renewed, Marked, SparedByInclude}
 use Rattle.reach.specs.Arcs.{graph_of}
 use Rattle.reach.specs.Exact.{Exact, Anew}
-use Rattle.reach.specs.Held.{held}
 use Rattle.reach.specs.Moved.{passing, differs}
 use Rattle.reach.specs.declared.data.PlanData.{PlanData}
-use Rattle.reach.specs.declared.set_table.SetTable.{SetTable}
-use Rattle.tables.specs.declared.table.Table.{Table}
 use Rattle.tables.specs.View.{panel_of}
 use Rattle.exports.specs.declared.export.Export.{Export}
 use Rattle.reach.proofs.Datas.{count_is}
@@ -25,7 +19,7 @@ use Rattle.reach.proofs.Ways.{passes, holds, ends_open, open_below}
 use Rattle.plans.specs.Accounts.{Kept}
 use Rattle.plans.specs.Edited.{ToldMoves}
 use Rattle.plans.specs.Book.{Call, linking, unlinking, including, excluding, accepted, History, book, edited, with_mark}
-use Rattle.plans.specs.Lawful.{refusal, number_in, answer_by, mark_answer, Accepted, Ascending, Moves}
+use Rattle.plans.specs.Lawful.{number_in, answer_by, Ascending, Moves}
 use Rattle.plans.proofs.Ascending.{ascends}
 use Rattle.plans.proofs.Shifts.{exact_again, moved_only, moved_all, reached_from}
 use Rattle.plans.proofs.Spared.{SameEnds, link_spares, unlink_spares, exclude_spares, include_spares}

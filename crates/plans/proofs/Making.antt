@@ -1,5 +1,5 @@
 -- What an accepted edit of a pair and of a mark leaves.
-use Rattle.std.proofs.Common.{◌≡◌, ℕ, ◌<◌, Bool, true, List, length, set, Ok, Err, vec_items, sym, refl, ap, ◌∙◌}
+use Rattle.std.proofs.Common.{◌≡◌, ℕ, ◌<◌, Bool, true, List, length, set, Ok, vec_items, sym, refl, ap, ◌∙◌}
 use mathlib.Core.Path.{fun_ext}
 use Rattle.exports.specs.declared.export.Export.{Export}
 use Rattle.std.proofs.lemmas.Bool.{cond-true, lt-ltb}

@@ -1,7 +1,6 @@
 -- What an edit does to paths, and which sets differ after it.
 use Rattle.std.proofs.Common.{◌≡◌, ℕ, ◌<◌, ◌≤◌, Bool, true, false, not, ◌&&◌, eqb, ltb, ◌⊎◌, length, sym, refl, ap, ◌∙◌, subst, inl, inr, ⊎_elim, arith}
 use Rattle.std.proofs.lemmas.Bool.{both_ways, cases_eq, cases_lt, ne_eqb, cond-false, and_right}
-use Rattle.stores.specs.Pairs.{changed}
 use Rattle.tables.specs.Panel.{Panel, count, external}
 use Rattle.tables.specs.Graph.{Graph, open_at, Path, start, Reaches}
 use Rattle.tables.specs.Graph.Path.{here, on}

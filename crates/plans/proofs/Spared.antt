@@ -1,11 +1,11 @@
 -- Entries that an edit cannot concern reach the same modules before and after it.
-use Rattle.std.proofs.Common.{◌≡◌, ℕ, ◌<◌, ◌≤◌, Bool, true, false, cond, not, ◌&&◌, eqb, ltb, ◌⊎◌, sym, refl, ap, ◌∙◌, subst, inl, inr, ⊎_elim}
+use Rattle.std.proofs.Common.{◌≡◌, ℕ, Bool, true, false, not, ◌&&◌, eqb, ltb, ◌⊎◌, sym, ap, ◌∙◌, subst, inl, inr, ⊎_elim}
 use Rattle.std.proofs.lemmas.Bool.{both_ways, cases_Bool, cases_eq, eqb-true, eq-eqb, ne_eqb, cond-true, cond-false, and_parts, and_from}
 use Rattle.stores.specs.Pairs.{changed}
 use Rattle.tables.specs.Panel.{Panel, count, external}
 use Rattle.tables.specs.Graph.{Graph, open_at, Path}
 use Rattle.tables.specs.Graph.Path.{here}
-use Rattle.reach.proofs.Ways.{carry, further, starts_open, ends_open}
+use Rattle.reach.proofs.Ways.{carry, further, ends_open}
 use Rattle.plans.specs.Book.{linking, unlinking, including, excluding, edited, with_mark}
 use Rattle.plans.proofs.Shifts.{open_same}
 

@@ -1,5 +1,5 @@
 -- How a plan's creation is answered.
-use Rattle.std.specs.Prelude.{◌≡◌, ℕ, cond, ◌⊎◌, List, [], Some, None, Ok, Err, vec_items, Option, Result, ◌==◌, ◌≢◌}
+use Rattle.std.specs.Prelude.{◌≡◌, ℕ, cond, ◌⊎◌, [], Some, None, Ok, Err, vec_items, Option, Result, ◌==◌, ◌≢◌}
 use Rattle.exports.specs.Check.{verdict, Judged}
 use Rattle.exports.specs.declared.export.BuildError.{BuildError}
 use Rattle.exports.specs.declared.export.BuildError.TheVariants.{Refused, OutOfMemory}

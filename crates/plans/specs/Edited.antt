@@ -1,5 +1,5 @@
 -- What an edit answers and leaves, for every plan and all arguments.
-use Rattle.std.specs.Prelude.{◌≡◌, ℕ, Bool, true, false, List, length, is_ok, Ok, Err, Result, slice_set}
+use Rattle.std.specs.Prelude.{◌≡◌, ℕ, Bool, true, false, List, length, Ok, Err, Result, slice_set}
 use Rattle.stores.specs.Answers.{Outcome, link_answer, unlink_answer}
 use Rattle.stores.specs.Pairs.{Pairs, changed}
 use Rattle.tables.specs.Panel.{count}

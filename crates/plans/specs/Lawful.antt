@@ -1,5 +1,5 @@
 -- What each call of a history owes by the book that it met.
-use Rattle.std.specs.Prelude.{◌≡◌, ℕ, ◌<◌, Bool, true, false, cond, ◌⊎◌, List, [], ◌∷◌, length, Some, None, Ok, Err, Option, nat_lt, slice_index}
+use Rattle.std.specs.Prelude.{◌≡◌, ℕ, ◌<◌, true, cond, ◌⊎◌, List, [], ◌∷◌, length, Some, None, Ok, Err, Option, nat_lt, slice_index}
 use Rattle.stores.specs.Answers.{Outcome, link_answer, unlink_answer}
 use Rattle.tables.specs.Panel.{Panel, count}
 use Rattle.tables.specs.Graph.{Graph, Path, Reaches}

@@ -1,5 +1,5 @@
 -- Histories of calls for a list of edits.
-use Rattle.std.specs.Prelude.{◌≡◌, ℕ, List, map, reverse}
+use Rattle.std.specs.Prelude.{◌≡◌, List, map, reverse}
 use Rattle.plans.specs.declared.plan.Edit.{Edit}
 use Rattle.plans.specs.declared.plan.Edit.TheVariants.{Link, Unlink, Include, Exclude}
 use Rattle.plans.specs.Book.{Call, linking, unlinking, including, excluding, Event, refused, accepted, History}

@@ -1,8 +1,8 @@
 -- Entry by entry, the sets tell the paths of the graph.
-use Rattle.std.proofs.Common.{◌≡◌, ℕ, ◌+◌, ◌<◌, ◌≤◌, Bool, true, false, cond, ◌&&◌, eqb, ltb, ◌⊎◌, List, map, length, get_or, sym, refl, ap, ◌∙◌, subst, inl, inr, ⊎_elim, arith}
+use Rattle.std.proofs.Common.{◌≡◌, ℕ, ◌+◌, ◌<◌, ◌≤◌, Bool, true, false, cond, ◌&&◌, eqb, ltb, List, map, length, get_or, sym, refl, ap, ◌∙◌, subst, inl, inr, ⊎_elim, arith}
 use Rattle.std.proofs.lemmas.List.{get_or-map, length-map}
 use Rattle.std.proofs.lemmas.Bool.{both_ways, cases_lt, cases_eq, cond-true, cond-false, and_left, and_right, and_from, eq-eqb, ne_eqb, lt-ltb, le-ltb}
-use Rattle.tables.specs.Panel.{Panel, PanelEntry, starts}
+use Rattle.tables.specs.Panel.{Panel, PanelEntry}
 use Rattle.tables.specs.Graph.{Graph, Path, start}
 use Rattle.tables.specs.View.{entry_of}
 use Rattle.tables.specs.declared.module.EntryPoint.{EntryPoint}

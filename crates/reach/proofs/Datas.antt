@@ -1,9 +1,9 @@
 -- Sizes of a table, as its panel has them, and sets that are exact once all entries are worked out.
-use Rattle.std.proofs.Common.{◌≡◌, ℕ, ◌<◌, ◌≤◌, Bool, true, false, length, vec_items, sym, refl, ap, ◌∙◌, subst, inl, ⊎_elim}
+use Rattle.std.proofs.Common.{◌≡◌, ℕ, ◌<◌, ◌≤◌, Bool, true, false, length, vec_items, ◌∙◌, inl, ⊎_elim}
 use Rattle.std.proofs.lemmas.List.{length-map}
 use Rattle.std.proofs.lemmas.Bool.{both_ways, cases_lt}
 use Rattle.tables.specs.Panel.{Panel, count}
-use Rattle.tables.specs.Graph.{Graph, Path, start}
+use Rattle.tables.specs.Graph.{Graph}
 use Rattle.tables.specs.View.{panel_of, module_of, entry_of}
 use Rattle.tables.specs.declared.table.Table.{Table}
 use Rattle.reach.specs.Exact.{Exact, Anew}

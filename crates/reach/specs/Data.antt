@@ -1,5 +1,5 @@
 -- What a plan's data mean, and what working them out leaves.
-use Rattle.std.specs.Prelude.{◌≡◌, ℕ, ◌<◌, Bool, true, false, ◌⊎◌, List, [], map, length, set, vec_items, ◌≢◌, slice_set}
+use Rattle.std.specs.Prelude.{◌≡◌, ℕ, ◌<◌, Bool, true, false, ◌⊎◌, List, [], map, length, vec_items, ◌≢◌, slice_set}
 use Rattle.stores.specs.Pairs.{Pairs}
 use Rattle.tables.specs.Panel.{Panel, count}
 use Rattle.tables.specs.Graph.{Graph, start}

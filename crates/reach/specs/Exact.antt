@@ -1,5 +1,5 @@
 -- When marks and sets tell just what paths lead to.
-use Rattle.std.specs.Prelude.{◌≡◌, ℕ, ◌<◌, ◌≤◌, Bool, true, false, ◌⊎◌, length}
+use Rattle.std.specs.Prelude.{◌≡◌, ℕ, ◌<◌, ◌≤◌, Bool, true, false, ◌⊎◌}
 use Rattle.tables.specs.Panel.{Panel}
 use Rattle.tables.specs.Graph.{Graph, Path, start, Reaches}
 

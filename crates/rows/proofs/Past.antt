@@ -1,5 +1,5 @@
 -- What lies past a place, where no later place changed.
-use Rattle.std.proofs.Common.{◌≡◌, ℕ, ◌+◌, ◌≤◌, List, length, get_or, drop, sym, ap, ◌∙◌, arith}
+use Rattle.std.proofs.Common.{◌≡◌, ℕ, ◌+◌, ◌≤◌, List, length, get_or, drop, sym, ◌∙◌, arith}
 use Rattle.std.proofs.lemmas.List.{ext_get_or, get_or-drop, length-drop}
 
 pub past_same : (old new : List ℕ) (k : ℕ) → length new ≡ length old → ((j : ℕ) → k ≤ j → get_or new j 0 ≡ get_or old j 0) → drop k new ≡ drop k old

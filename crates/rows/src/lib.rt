@@ -5,7 +5,7 @@ ghost use Rattle.std.specs.Prelude.{◌≡◌, ℕ, ◌+◌, ◌*◌, ◌<◌, �
 ghost use Rattle.stores.specs.Pairs.{degree, changed, no_pairs, Smallest, NoneFrom};
 ghost use Rattle.rows.specs.Rows.{rows_of, row_length, in_row, row_pairs, PlaceOf};
 ghost use Rattle.rows.specs.RowFacts.{rows_within};
-ghost use Rattle.stores.specs.Created.{Laid_out, making_refusal, refusal_of};
+ghost use Rattle.stores.specs.Created.{LaidOut, making_refusal, refusal_of};
 
 mod numbers;
 
@@ -33,7 +33,7 @@ impl<'a> RowStore<'a> {
     // An empty store of `size` modules in the first 65 * size numbers; refused, the numbers come back as they were.
     pub fn create(size: usize, numbers: &'a mut [u16]) -> Result<RowStore<'a>, Unused<'a>>
         ensures answer { refusal_of (λ e. e.why) result ≡ making_refusal 65 size (length numbers.old) }
-        ensures after { MatchResult result (λ s. (rows_of s.size s.numbers.now ≡ size) × Laid_out 65535 (65 * size) numbers.old s.numbers.now) (λ e. e.numbers.now ≡ numbers.old) }
+        ensures after { MatchResult result (λ s. (rows_of s.size s.numbers.now ≡ size) × LaidOut 65535 (65 * size) numbers.old s.numbers.now) (λ e. e.numbers.now ≡ numbers.old) }
         ensures empty { IfOk result (λ s. row_pairs s.size s.numbers.now ≡ no_pairs) }
         ensures lender { MatchResult result (λ s. s.numbers.ghost_name ≡ numbers.entry.ghost_name) (λ e. e.numbers.ghost_name ≡ numbers.entry.ghost_name) }
     {
@@ -42,7 +42,7 @@ impl<'a> RowStore<'a> {
 
     fn lay_out(size: usize, numbers: &'a mut [u16]) -> Result<RowStore<'a>, Unused<'a>>
         ensures answer { refusal_of (λ e. e.why) result ≡ making_refusal 65 size (length numbers.old) }
-        ensures after { MatchResult result (λ s. (rows_of s.size s.numbers.now ≡ size) × Laid_out 65535 (65 * size) numbers.old s.numbers.now) (λ e. e.numbers.now ≡ numbers.old) }
+        ensures after { MatchResult result (λ s. (rows_of s.size s.numbers.now ≡ size) × LaidOut 65535 (65 * size) numbers.old s.numbers.now) (λ e. e.numbers.now ≡ numbers.old) }
         ensures empty { IfOk result (λ s. row_pairs s.size s.numbers.now ≡ no_pairs) }
         ensures lender { MatchResult result (λ s. s.numbers.ghost_name ≡ numbers.entry.ghost_name) (λ e. e.numbers.ghost_name ≡ numbers.entry.ghost_name) }
     {

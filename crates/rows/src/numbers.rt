@@ -1,5 +1,5 @@
 ghost use Rattle.std.specs.Prelude.{◌≡◌, ◌+◌, ◌*◌, ◌<◌, ◌≤◌, false, length};
-ghost use Rattle.stores.specs.Created.{Laid_out};
+ghost use Rattle.stores.specs.Created.{LaidOut};
 ghost use Rattle.rows.specs.Rows.{row_length, in_row, among, Rises, PlaceOf, Inserted, Removed};
 
 // No module's number: it stands behind the last of a row.
@@ -69,7 +69,7 @@ pub(crate) fn remove(numbers: &mut [u16], m: usize, k: usize, p: usize)
 // Empties the rows in the first n numbers.
 pub(crate) fn empty(numbers: &mut [u16], n: usize)
     requires { n ≤ length numbers.old }
-    ensures { Laid_out 65535 n numbers.old numbers.new }
+    ensures { LaidOut 65535 n numbers.old numbers.new }
 {
     for i in 0..n {
         numbers[i] = END;

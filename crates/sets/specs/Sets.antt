@@ -1,5 +1,5 @@
 -- What a set of entries holds.
-use Rattle.std.specs.Prelude.{◌≡◌, ℕ, Bool, true, false}
+use Rattle.std.specs.Prelude.{◌≡◌, ℕ, Bool, false}
 use Rattle.sets.specs.declared.EntrySet.{EntrySet}
 use Rattle.sets.specs.Bits.{bit}
 

@@ -4,7 +4,7 @@
 ghost use Rattle.std.specs.Prelude.{◌≡◌, ℕ, ◌+◌, ◌*◌, ◌<◌, ◌≤◌, true, false, length, drop, IfOk, MatchOption, MatchResult};
 ghost use Rattle.stores.specs.Pairs.{degree, changed, no_pairs, Smallest, NoneFrom};
 ghost use Rattle.squares.specs.Square.{square_pairs, side_of, within_side};
-ghost use Rattle.stores.specs.Created.{Laid_out, making_refusal, refusal_of};
+ghost use Rattle.stores.specs.Created.{LaidOut, making_refusal, refusal_of};
 
 use stores::store::DependencyStore;
 use tables::index::ModuleIdx;
@@ -29,7 +29,7 @@ impl<'a> SquareStore<'a> {
     // An empty store of `size` modules in the first 8 * size words; refused, the words come back as they were.
     pub fn create(size: usize, words: &'a mut [u64]) -> Result<SquareStore<'a>, Returned<'a>>
         ensures answer { refusal_of (λ e. e.why) result ≡ making_refusal 8 size (length words.old) }
-        ensures after { MatchResult result (λ s. (side_of s.size s.words.now ≡ size) × Laid_out 0 (8 * size) words.old s.words.now) (λ e. e.words.now ≡ words.old) }
+        ensures after { MatchResult result (λ s. (side_of s.size s.words.now ≡ size) × LaidOut 0 (8 * size) words.old s.words.now) (λ e. e.words.now ≡ words.old) }
         ensures empty { IfOk result (λ s. square_pairs s.size s.words.now ≡ no_pairs) }
         ensures lender { MatchResult result (λ s. s.words.ghost_name ≡ words.entry.ghost_name) (λ e. e.words.ghost_name ≡ words.entry.ghost_name) }
     {
@@ -38,7 +38,7 @@ impl<'a> SquareStore<'a> {
 
     fn lay_out(size: usize, words: &'a mut [u64]) -> Result<SquareStore<'a>, Returned<'a>>
         ensures answer { refusal_of (λ e. e.why) result ≡ making_refusal 8 size (length words.old) }
-        ensures after { MatchResult result (λ s. (side_of s.size s.words.now ≡ size) × Laid_out 0 (8 * size) words.old s.words.now) (λ e. e.words.now ≡ words.old) }
+        ensures after { MatchResult result (λ s. (side_of s.size s.words.now ≡ size) × LaidOut 0 (8 * size) words.old s.words.now) (λ e. e.words.now ≡ words.old) }
         ensures empty { IfOk result (λ s. square_pairs s.size s.words.now ≡ no_pairs) }
         ensures lender { MatchResult result (λ s. s.words.ghost_name ≡ words.entry.ghost_name) (λ e. e.words.ghost_name ≡ words.entry.ghost_name) }
     {
@@ -127,7 +127,7 @@ impl<'a> SquareStore<'a> {
 // Clears the first n words.
 fn clear(words: &mut [u64], n: usize)
     requires { n ≤ length words.old }
-    ensures { Laid_out 0 n words.old words.new }
+    ensures { LaidOut 0 n words.old words.new }
 {
     for i in 0..n {
         words[i] = 0;

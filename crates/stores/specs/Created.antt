@@ -12,7 +12,7 @@ refusal_of why (Ok x) = None
 refusal_of why (Err y) = Some (why y)
 
 -- the first n places hold v, and the later ones are as they were
-pub record Laid_out (v n : ℕ) (old new : List ℕ) : Type 0 where
+pub record LaidOut (v n : ℕ) (old new : List ℕ) : Type 0 where
   pub long : length new ≡ length old
   pub clear : (i : ℕ) → i < n → slice_index new i ≡ v
   pub past : (i : ℕ) → n ≤ i → slice_index new i ≡ slice_index old i

@@ -1,5 +1,5 @@
 -- What edits change of a panel: the pairs and the included marks. And the paths that they leave open.
-use Rattle.std.specs.Prelude.{◌≡◌, ℕ, ◌<◌, Bool, true, false, not, ◌&&◌, length, nat_lt, slice_index}
+use Rattle.std.specs.Prelude.{◌≡◌, ℕ, ◌<◌, Bool, true, not, ◌&&◌, length, nat_lt, slice_index}
 use Rattle.tables.specs.Panel.{Panel, count, external, starts}
 
 -- which module loads which, and which are included

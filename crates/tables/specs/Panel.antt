@@ -1,5 +1,5 @@
 -- A panel as a reader sees it: all that an export fixes. The included marks are apart, since they alone change later.
-use Rattle.std.specs.Prelude.{ℕ, Bool, true, false, List, [], ◌∷◌, map, length, Option, slice_index_or}
+use Rattle.std.specs.Prelude.{ℕ, Bool, false, List, [], map, length, Option, slice_index_or}
 use Rattle.tables.specs.declared.module.WrapKind.{WrapKind}
 use Rattle.tables.specs.declared.module.WrapKind.TheVariants as wraps
 use Rattle.tables.specs.declared.module.EntryPointKind.{EntryPointKind}

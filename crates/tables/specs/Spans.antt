@@ -1,5 +1,5 @@
 -- Spans that lie one after another in a list.
-use Rattle.std.specs.Prelude.{ℕ, Bool, true, false, ◌&&◌, List, [], ◌∷◌, ◌==◌, nat_le}
+use Rattle.std.specs.Prelude.{ℕ, Bool, ◌&&◌, List, [], ◌∷◌, ◌==◌, nat_le}
 use Rattle.std.specs.List.{between}
 use Rattle.tables.specs.declared.module.Span.{Span}
 

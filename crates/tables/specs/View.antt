@@ -1,5 +1,5 @@
 -- The panel that a table means.
-use Rattle.std.specs.Prelude.{ℕ, Bool, true, false, List, [], ◌∷◌, map, vec_items, Option}
+use Rattle.std.specs.Prelude.{ℕ, Bool, true, false, List, map, vec_items}
 use Rattle.std.specs.Option.{option_map}
 use Rattle.tables.specs.declared.index.ModuleIdx.{ModuleIdx}
 use Rattle.tables.specs.declared.module.Module.{Module}

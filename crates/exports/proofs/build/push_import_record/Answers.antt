@@ -1,4 +1,4 @@
-use Rattle.std.proofs.Common.{◌≡◌, suc, ◌+◌, ◌-◌, ◌<◌, ◌≤◌, length, vec_items, vec_len, sym, ap, ◌∙◌, arith}
+use Rattle.std.proofs.Common.{◌≡◌, suc, ◌-◌, ◌≤◌, length, vec_items, ◌∙◌, arith}
 use Rattle.exports.proofs.Adds.{import_lies}
 use Rattle.exports.proofs.build.push_import_record.Goals as goal
 

@@ -1,5 +1,4 @@
-use Rattle.std.proofs.Common.{◌≡◌, ◌+◌, ◌<◌, ◌≤◌, List, [], ◌∷◌, ◌++◌, length, vec_items, vec_len, sym, ap, ◌∙◌, arith, rules}
-use Rattle.tables.specs.declared.module.Module.{Module}
+use Rattle.std.proofs.Common.{vec_items, ◌∙◌, arith}
 use Rattle.exports.proofs.Adds.{module_lies}
 use Rattle.exports.proofs.build.push_module.Goals as goal
 

@@ -1,4 +1,4 @@
-use Rattle.std.proofs.Common.{◌≡◌, List, [], ◌∷◌, vec_items, sym, refl, ap, ◌∙◌, subst, arith, rules}
+use Rattle.std.proofs.Common.{vec_items, sym}
 use Rattle.tables.specs.View.{panel_of}
 use Rattle.reach.specs.Arcs.{graph_of}
 use Rattle.reach.proofs.Ways.{from_tour, from_nowhere, open_below, walked}

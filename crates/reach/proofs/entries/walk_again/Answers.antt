@@ -1,4 +1,4 @@
-use Rattle.std.proofs.Common.{◌≡◌, ℕ, ◌+◌, ◌<◌, ◌≤◌, Bool, true, false, List, length, vec_items, vec_len, sym, refl, ap, ◌∙◌, subst, arith, rules}
+use Rattle.std.proofs.Common.{◌≡◌, ◌+◌, ◌<◌, length, vec_items, vec_len, sym, refl, ap, ◌∙◌, subst, arith}
 use Rattle.std.proofs.lemmas.List.{length-map}
 use Rattle.sets.specs.Sets.{member}
 use Rattle.tables.specs.Panel.{count}
@@ -9,7 +9,6 @@ use Rattle.reach.specs.Arcs.{graph_of}
 use Rattle.reach.specs.Exact.{Anew}
 use Rattle.reach.specs.Held.{held}
 use Rattle.reach.specs.declared.set_table.SetTable.{SetTable}
-use Rattle.walks.specs.declared.walker.Walker.{Walker}
 use Rattle.reach.proofs.Anewing.{anew_none, anew_passed, anew_more, start_at}
 use Rattle.reach.proofs.Helds.{held_past}
 use Rattle.reach.proofs.Ways.{ends_open, open_below}

@@ -1,7 +1,6 @@
-use Rattle.std.proofs.Common.{◌≡◌, ℕ, ◌+◌, ◌≤◌, Bool, true, false, List, [], ◌∷◌, ◌++◌, map, length, vec_items, vec_len, vec_capacity, sym, refl, ap, ◌∙◌, subst, arith, rules}
+use Rattle.std.proofs.Common.{◌≡◌, ℕ, List, [], ◌∷◌, ◌++◌, map, vec_items, vec_len, vec_capacity, sym, refl, ap, ◌∙◌, arith, rules}
 use Rattle.std.proofs.lemmas.List.{map_push, nil_from_length}
 use Rattle.tables.specs.View.{number}
-use Rattle.tables.specs.declared.index.ModuleIdx.{ModuleIdx}
 use Rattle.reach.specs.Held.{held}
 use Rattle.reach.specs.Moved.{passing, differs}
 use Rattle.reach.proofs.Passes.{push_pass, push_shut}

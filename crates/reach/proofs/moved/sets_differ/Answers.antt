@@ -1,7 +1,6 @@
-use Rattle.std.proofs.Common.{◌≡◌, Bool, true, false, not, vec_items, sym, refl, ap, ◌∙◌, ⊎_elim, arith}
+use Rattle.std.proofs.Common.{not, vec_items, sym, ap, ◌∙◌, ⊎_elim, arith}
 use Rattle.std.proofs.lemmas.Bool.{both_ways, cases_Bool}
 use Rattle.reach.specs.Held.{held}
-use Rattle.reach.specs.Moved.{differs}
 use Rattle.reach.proofs.Passes.{same_test, other_test}
 use Rattle.reach.proofs.moved.sets_differ.Goals as goal
 

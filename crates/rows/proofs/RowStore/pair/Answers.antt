@@ -1,4 +1,4 @@
-use Rattle.std.proofs.Common.{◌≡◌, ℕ, ◌<◌, ◌≤◌, sym, refl, ap, ◌∙◌, arith}
+use Rattle.std.proofs.Common.{ℕ, refl, ap, ◌∙◌, arith}
 use Rattle.rows.specs.Rows.{listed_in, rows_of}
 use Rattle.rows.specs.RowFacts.{stops}
 use Rattle.rows.specs.Rows.{in_row}

@@ -1,6 +1,5 @@
-use Rattle.std.proofs.Common.{◌≡◌, ℕ, ◌*◌, ◌/◌, ◌<◌, ◌≤◌, min, length, drop, sym, refl, ap, ◌∙◌, inr, arith}
+use Rattle.std.proofs.Common.{◌≡◌, ℕ, ◌*◌, ◌/◌, ◌<◌, min, length, drop, sym, refl, ap, ◌∙◌, inr, arith}
 use Rattle.rows.specs.Rows.{rows_of, listed_in}
-use Rattle.stores.specs.Pairs.{changed}
 use Rattle.rows.proofs.Past.{past_same}
 use Rattle.rows.proofs.Listing.{put_few, put_fresh, put_rises, insert_pairs}
 use Rattle.rows.proofs.RowStore.put.Goals as goal

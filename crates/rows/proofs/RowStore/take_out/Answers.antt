@@ -1,4 +1,4 @@
-use Rattle.std.proofs.Common.{◌≡◌, ℕ, ◌*◌, ◌/◌, ◌<◌, ◌≤◌, min, length, drop, sym, refl, ap, ◌∙◌, inr, arith}
+use Rattle.std.proofs.Common.{◌≡◌, ℕ, ◌*◌, ◌/◌, min, length, drop, sym, refl, ap, ◌∙◌, inr, arith}
 use Rattle.rows.specs.Rows.{rows_of, listed_in}
 use Rattle.rows.proofs.Past.{past_same}
 use Rattle.rows.proofs.Listing.{place_there, remove_pairs}

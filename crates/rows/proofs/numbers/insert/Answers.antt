@@ -1,4 +1,4 @@
-use Rattle.std.proofs.Common.{◌≡◌, ◌+◌, ◌*◌, ◌<◌, ◌≤◌, length, arith, length-set}
+use Rattle.std.proofs.Common.{◌≡◌, ◌+◌, ◌*◌, ◌≤◌, length, arith, length-set}
 use Rattle.rows.proofs.Listing.{shift_step, shift_done}
 use Rattle.rows.proofs.numbers.insert.Goals as goal
 use Rattle.rows.proofs.numbers.insert.Goals.{then-loop-p-test+else-numbers-m, else-loop-p-test}

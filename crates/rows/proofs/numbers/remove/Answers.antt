@@ -1,4 +1,4 @@
-use Rattle.std.proofs.Common.{◌≡◌, ℕ, sym, subst, arith}
+use Rattle.std.proofs.Common.{◌≡◌, ℕ, subst, arith}
 use Rattle.rows.proofs.Listing.{Closing, close_step, close_done}
 use Rattle.rows.proofs.numbers.remove.Goals as goal
 

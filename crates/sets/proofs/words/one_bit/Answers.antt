@@ -1,4 +1,4 @@
-use Rattle.std.proofs.Common.{◌≡◌, eqb, ltb, sym, ◌∙◌}
+use Rattle.std.proofs.Common.{eqb, sym, ◌∙◌}
 use Rattle.std.proofs.lemmas.Bool.{lt-ltb, le-ltb, and_right}
 use Rattle.sets.proofs.Bits.{bit_one, bit_zero, and_true}
 use Rattle.sets.proofs.words.one_bit.Goals as goal

@@ -1,5 +1,4 @@
-use Rattle.std.proofs.Common.{◌<◌, ◌≤◌, true, false, ◌&&◌, sym, ap, ◌∙◌, ⊎_elim}
-use Rattle.squares.specs.Square.{pairs_in, side_of}
+use Rattle.std.proofs.Common.{◌∙◌}
 use Rattle.sets.proofs.Bits.{bit_test}
 use Rattle.squares.proofs.Words.{pair_inside, pair_outside}
 use Rattle.squares.proofs.SquareStore.pair.Goals as goal

@@ -1,4 +1,4 @@
-use Rattle.std.proofs.Common.{◌*◌, ◌/◌, ◌%◌, ◌<◌, ◌≤◌, false, length, refl, arith, length-set}
+use Rattle.std.proofs.Common.{◌*◌, ◌%◌, false, refl, arith, length-set}
 use Rattle.squares.specs.Square.{side_of, place}
 use Rattle.sets.proofs.Bits.{bit_clear}
 use Rattle.std.proofs.lemmas.List.{drop-set-lt}

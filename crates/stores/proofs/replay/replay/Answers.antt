@@ -1,4 +1,4 @@
-use Rattle.std.proofs.Common.{◌∙◌, arith, rules}
+use Rattle.std.proofs.Common.{◌∙◌, arith}
 use Rattle.stores.proofs.Replays.{pairs_more, answers_more, pairs_all, answers_all}
 use Rattle.stores.proofs.replay.replay.Goals as goal
 

@@ -1,6 +1,6 @@
 use Rattle.std.proofs.Common.{length, vec_items, sym, ap, ◌∙◌}
 use Rattle.std.proofs.lemmas.List.{length-map}
-use Rattle.tables.specs.Panel.{Panel, PanelModule}
+use Rattle.tables.specs.Panel.{Panel}
 use Rattle.tables.specs.View.{module_of}
 use Rattle.exports.proofs.export.Export.new.Goals as goal
 

@@ -1,4 +1,4 @@
-use Rattle.std.proofs.Common.{◌≡◌, ℕ, List, Some, None, vec_items, sym, ap, ◌∙◌, subst}
+use Rattle.std.proofs.Common.{◌≡◌, Some, vec_items, sym, ap, ◌∙◌}
 use Rattle.digits.specs.Digits.{bytes_in}
 use Rattle.std.specs.Option.{option_map}
 use Rattle.panels.specs.Reads.{read_of}

@@ -1,4 +1,4 @@
-use Rattle.std.proofs.Common.{◌≡◌, ◌≤◌, length, vec_items, vec_len, ◌∙◌, arith}
+use Rattle.std.proofs.Common.{◌≤◌, length, vec_items, ◌∙◌, arith}
 use Rattle.panels.proofs.Holding.{held_more, held_full}
 use Rattle.panels.proofs.line.LineBuffer.hold.Goals as goal
 

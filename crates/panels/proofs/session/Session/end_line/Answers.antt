@@ -1,4 +1,4 @@
-use Rattle.std.proofs.Common.{◌≡◌, ℕ, Bool, cond, List, take, is_ok, Option, sym, ap, ◌∙◌, subst, rules}
+use Rattle.std.proofs.Common.{◌≡◌, cond, take, is_ok, Option, ap, ◌∙◌, subst, rules}
 use Rattle.tables.specs.declared.refusal.Refusal.{Refusal}
 use Rattle.panels.specs.Reads.{Read, read_of, line_refusal, line_after, Answer}
 use Rattle.panels.proofs.Holding.{whole_refusal, whole_after}

@@ -1,4 +1,4 @@
-use Rattle.std.proofs.Common.{◌<◌, true, false, refl, ap, arith}
+use Rattle.std.proofs.Common.{◌<◌, false, refl, ap, arith}
 use Rattle.sets.specs.Sets.{member}
 use Rattle.tables.specs.Panel.{Panel, count}
 use Rattle.tables.specs.View.{panel_of}

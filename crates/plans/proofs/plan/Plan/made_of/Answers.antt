@@ -1,4 +1,4 @@
-use Rattle.std.proofs.Common.{◌≡◌, sym, refl, ◌∙◌}
+use Rattle.std.proofs.Common.{sym, refl, ◌∙◌}
 use Rattle.plans.proofs.Accounting.{opens}
 use Rattle.plans.proofs.plan.Plan.made_of.Goals as goal
 

@@ -1,4 +1,4 @@
-use Rattle.std.proofs.Common.{true, false, sym, refl}
+use Rattle.std.proofs.Common.{false, sym, refl}
 use Rattle.sets.specs.Sets.{member}
 use Rattle.plans.specs.Book.{unlinking}
 use Rattle.plans.proofs.Accounting.{accepts, unlink_spared, pair_graph}

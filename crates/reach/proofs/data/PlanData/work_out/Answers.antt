@@ -1,7 +1,6 @@
-use Rattle.std.proofs.Common.{◌≡◌, List, map, sym, refl, ap, ◌∙◌, arith}
+use Rattle.std.proofs.Common.{map, sym, refl, ap, ◌∙◌, arith}
 use Rattle.std.proofs.lemmas.Bool.{and_from, lt-ltb}
 use Rattle.sets.specs.Sets.{member}
-use Rattle.sets.specs.declared.EntrySet.{EntrySet}
 use Rattle.tables.specs.View.{number}
 use Rattle.reach.specs.Data.{panel_in, graph_in, sets_in}
 use Rattle.reach.specs.Held.{held}

@@ -1,5 +1,4 @@
-use Rattle.std.proofs.Common.{◌≡◌, ℕ, Bool, List, map, length, vec_items, vec_len, sym, refl, ap, ◌∙◌, subst}
-use Rattle.tables.specs.View.{number}
+use Rattle.std.proofs.Common.{ℕ, Bool, length, vec_items, vec_len, sym, refl, ap, ◌∙◌}
 use Rattle.reach.specs.Data.{panel_in, sets_in}
 use Rattle.reach.specs.Held.{held}
 use Rattle.reach.specs.Moved.{passing, differs}

@@ -1,8 +1,7 @@
-use Rattle.std.proofs.Common.{◌≡◌, vec_items, sym, refl, ap, ◌∙◌, subst, ⊎_elim, arith, rules}
+use Rattle.std.proofs.Common.{vec_items, sym, ◌∙◌, ⊎_elim, arith}
 use Rattle.tables.specs.View.{panel_of}
 use Rattle.reach.specs.Arcs.{graph_of}
 use Rattle.reach.proofs.Arcing.{found, shut, beyond, none, ended, outside}
-use Rattle.reach.proofs.loads.LoadsArcs.next.Given as given
 use Rattle.reach.proofs.loads.LoadsArcs.next.Goals as goal
 
 pub returns-then-node-count : goal.returns-then-node-count

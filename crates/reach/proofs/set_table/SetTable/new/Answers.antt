@@ -1,4 +1,4 @@
-use Rattle.std.proofs.Common.{◌≡◌, List, refl, ap, ◌∙◌}
+use Rattle.std.proofs.Common.{List, refl, ap, ◌∙◌}
 use Rattle.sets.specs.declared.EntrySet.{EntrySet}
 use Rattle.reach.specs.Held.{held}
 use Rattle.reach.proofs.Helds.{held_empty}

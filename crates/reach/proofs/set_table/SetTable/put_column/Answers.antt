@@ -1,4 +1,4 @@
-use Rattle.std.proofs.Common.{◌≡◌, ℕ, Bool, cond, ◌&&◌, eqb, ltb, vec_items, vec_len, sym, ap, ◌∙◌, rules}
+use Rattle.std.proofs.Common.{Bool, cond, ◌&&◌, eqb, vec_items, ap, ◌∙◌}
 use Rattle.walks.specs.Walks.{has}
 use Rattle.walks.specs.Walkers.{taken_by}
 use Rattle.reach.specs.Held.{held}

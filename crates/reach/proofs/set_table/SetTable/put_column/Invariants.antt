@@ -1,4 +1,4 @@
-use Rattle.std.proofs.Common.{◌≡◌, ℕ, ◌≤◌, cond, ◌&&◌, eqb, ltb, vec_items, vec_len}
+use Rattle.std.proofs.Common.{◌≡◌, ℕ, cond, ◌&&◌, eqb, ltb, vec_items, vec_len}
 use Rattle.walks.specs.Walks.{has}
 use Rattle.walks.specs.Walkers.{taken_by}
 use Rattle.reach.specs.Held.{held}

@@ -1,4 +1,4 @@
-use Rattle.std.proofs.Common.{◌≤◌, length, vec_items, sym, arith, rules}
+use Rattle.std.proofs.Common.{◌≤◌, length, vec_items, sym, rules}
 use Rattle.std.proofs.lemmas.List.{set_past}
 use Rattle.tables.proofs.included.Included.put_mark.Goals as goal
 
