@@ -31,6 +31,9 @@ def files(root, *suffixes):
 # Names that a library's word already has in today's spelling.
 OTHERWISE = {"bit-and": "bit_of_and", "bit-or": "bit_of_or"}
 
+# Types that port.py gives a word's spelling.
+TYPES = {"Laid_out": "LaidOut"}
+
 
 def respelled(name):
     """A type in camel case, a word in snake case."""
@@ -75,6 +78,8 @@ def main():
         print("\n".join(f"{a} {b}" for a, b in sorted(table.items())))
         return
     for path in files(root, ".antt", ".rt", ".md"):
+        if path.name == "PORT.md":
+            continue
         old = path.read_text()
         if path.suffix == ".md":
             # port.py turns no pages: a word that it has turned is turned here
@@ -82,6 +87,7 @@ def main():
             new = re.sub(r"`[^`\n]*`", lambda m: TOKEN.sub(turned, m.group(0)), old)
         else:
             new = TOKEN.sub(lambda t: table.get(t.group(0), t.group(0)), old)
+            new = WORD.sub(lambda t: TYPES.get(t.group(0), t.group(0)), new)
         if new != old:
             path.write_text(new)
 
