@@ -1,5 +1,6 @@
+pub mod Kinds
 pub mod Refusals
 pub mod Panel
-pub mod Spans
+pub mod Totals
 pub mod View
 pub mod Graph

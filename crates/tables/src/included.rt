@@ -13,29 +13,15 @@ impl Included {
     pub fn contains(&self, m: ModuleIdx) -> bool
         ensures { result ≡ slice_index_or self.now.marks.items m.0 false }
     {
-        mark_at(self.marks.as_slice(), m)
+        self.marks.get(usize::from(m)).copied().unwrap_or(false)
     }
 
     // Sets or clears the mark of a module; a number that no module has changes nothing.
     pub fn put(&mut self, m: ModuleIdx, on: bool)
         ensures { self.new.marks.items ≡ slice_set self.old.marks.items m.0 on }
     {
-        self.put_mark(m, on);
-    }
-
-    fn put_mark(&mut self, m: ModuleIdx, on: bool)
-        ensures { self.new.marks.items ≡ slice_set self.old.marks.items m.0 on }
-    {
-        let i = m.0 as usize;
-        if i < self.marks.len() {
-            self.marks[i] = on;
+        if let Some(mark) = self.marks.get_mut(usize::from(m)) {
+            *mark = on;
         }
     }
-}
-
-fn mark_at(marks: &[bool], m: ModuleIdx) -> bool
-    ensures { result ≡ slice_index_or marks.now m.0 false }
-{
-    let i = m.0 as usize;
-    if i < marks.len() { marks[i] } else { false }
 }

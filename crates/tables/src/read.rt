@@ -1,91 +1,66 @@
-ghost use Rattle.std.specs.Prelude.{◌≡◌, ◌≤◌, map, length};
-ghost use Rattle.tables.specs.Panel.{count, at};
+ghost use Rattle.std.specs.Prelude.{◌≡◌, map, MatchOption};
+ghost use Rattle.tables.specs.Panel.{count, at, no_module};
 ghost use Rattle.tables.specs.View.{panel_of, module_of, import_of, entry_of, number, is_by_id};
 
 use crate::index::ModuleIdx;
-use crate::module::{EntryPoint, ImportRecord, Module, Options, Span, WrapKind};
+use crate::module::{EntryPoint, ImportRecord, Module, Options, WrapKind};
 use crate::table::Table;
 
-// What is answered of a number that no module has.
-const NO_MODULE: Module = Module {
-    external: false,
-    json: false,
-    order_sensitive: false,
-    wrap_kind: WrapKind::None,
-    exec_order: 0,
-    id: Span { start: 0, end: 0 },
-    import_records: Span { start: 0, end: 0 },
-};
-
+// Each answers plainly of a number that no module has.
 impl Table {
     // How many modules there are.
     pub fn len(&self) -> usize
         ensures { result ≡ count (panel_of self.now) }
     {
-        self.count()
-    }
-
-    fn count(&self) -> usize
-        ensures { result ≡ count (panel_of self.now) }
-    {
         self.modules.len()
     }
 
-    fn module(&self, m: ModuleIdx) -> Module
-        ensures view { module_of self.now.ids.items self.now.records.items result ≡ at (panel_of self.now) m.0 }
-        ensures id { (result.id.start ≤ result.id.end) × (result.id.end ≤ length self.now.ids.items) }
-        ensures records { (result.import_records.start ≤ result.import_records.end) × (result.import_records.end ≤ length self.now.records.items) }
+    fn module(&self, m: ModuleIdx) -> Option<&Module>
+        ensures { MatchOption result (at (panel_of self.now) m.0 ≡ no_module) (λ r. at (panel_of self.now) m.0 ≡ module_of r.now) }
     {
-        let i = m.0 as usize;
-        if i < self.modules.len() {
-            self.modules[i]
-        } else {
-            NO_MODULE
-        }
+        self.modules.get(usize::from(m))
     }
 
     pub fn is_external(&self, m: ModuleIdx) -> bool
         ensures { result ≡ (at (panel_of self.now) m.0).external }
     {
-        self.module(m).external
+        self.module(m).is_some_and(|m| m.external)
     }
 
     pub fn is_json(&self, m: ModuleIdx) -> bool
         ensures { result ≡ (at (panel_of self.now) m.0).json }
     {
-        self.module(m).json
+        self.module(m).is_some_and(|m| m.json)
     }
 
     pub fn is_order_sensitive(&self, m: ModuleIdx) -> bool
         ensures { result ≡ (at (panel_of self.now) m.0).sensitive }
     {
-        self.module(m).order_sensitive
+        self.module(m).is_some_and(|m| m.order_sensitive)
     }
 
     pub fn wrap_kind(&self, m: ModuleIdx) -> WrapKind
         ensures { result ≡ (at (panel_of self.now) m.0).wrap }
     {
-        self.module(m).wrap_kind
+        self.module(m).map_or(WrapKind::None, |m| m.wrap_kind)
     }
 
     pub fn exec_order(&self, m: ModuleIdx) -> u32
         ensures { result ≡ (at (panel_of self.now) m.0).order }
     {
-        self.module(m).exec_order
+        self.module(m).map_or(0, |m| m.exec_order)
     }
 
     pub fn id(&self, m: ModuleIdx) -> &[u8]
         ensures { result.now ≡ (at (panel_of self.now) m.0).ident }
     {
-        let Span { start, end } = self.module(m).id;
-        &self.ids[start..end]
+        self.module(m).map_or(&[], |m| m.id.as_slice())
     }
 
     pub fn import_records(&self, m: ModuleIdx) -> &[ImportRecord]
         ensures { map import_of result.now ≡ (at (panel_of self.now) m.0).imports }
     {
-        let Span { start, end } = self.module(m).import_records;
-        &self.records[start..end]
+        self.module(m).map_or(&[], |m| m.import_records.as_slice())
     }
 
     pub fn entries(&self) -> &[EntryPoint]
