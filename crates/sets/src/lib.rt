@@ -7,7 +7,7 @@ ghost use Rattle.sets.specs.Sets.{width, member, Empty, Same};
 mod words;
 
 // A set of entries, one bit for each: bit e stands for entry e.
-#[derive(Clone, Copy)]
+#[derive(Clone, Copy, Debug, PartialEq, Eq)]
 pub struct EntrySet(u64);
 
 impl EntrySet {
@@ -31,7 +31,7 @@ impl EntrySet {
     pub fn insert(&mut self, e: usize)
         ensures { (k : ℕ) → member self.new k ≡ (member self.old k || (k == e && nat_lt e width)) }
     {
-        self.0 = words::with_bit(self.0, e);
+        self.unite(EntrySet::single(e));
     }
 
     // The first entries, `n` of them; all below the width where there are not so many.
@@ -74,22 +74,24 @@ impl EntrySet {
         words::has_no_bit(self.0)
     }
 
-    // Whether the same entries are members of both.
+    // Whether the same entries are members of both; `==` says so of the words.
     pub fn equals(&self, other: &EntrySet) -> bool
         ensures { Decides result (Same self.now other.now) }
     {
         words::same_bits(self.0, other.0)
     }
+}
 
-    // The set as a number, bit e for entry e.
-    pub fn bits(self) -> u64
-        ensures { result ≡ self.0 }
-    {
-        let EntrySet(word) = self;
-        word
+// The set as a number, bit e for entry e.
+impl From<EntrySet> for u64 {
+    ghost from_gives = { λ set r. r ≡ set.0 };
+
+    fn from(set: EntrySet) -> u64 {
+        set.0
     }
 }
 
+// Apart from `first`, so that a wrong number there is refused for the promise.
 fn inserted_below(n: usize) -> EntrySet
     ensures { (k : ℕ) → member result k ≡ (nat_lt k n && nat_lt k width) }
 {

@@ -3,6 +3,7 @@ ghost use Rattle.sets.specs.Bits.{bit};
 
 // Words of 64 bits, by their bits. A bit that is not below 64 is never set.
 
+#[tactic(auto, using(crate::proofs::Bits::bit_zero))]
 pub(crate) fn without_bits() -> u64
     ensures { (k : ℕ) → bit result k ≡ false }
 {
@@ -13,12 +14,6 @@ pub(crate) fn one_bit(e: usize) -> u64
     ensures { (k : ℕ) → bit result k ≡ (k == e && nat_lt e 64) }
 {
     if e < 64 { 1 << e } else { 0 }
-}
-
-pub(crate) fn with_bit(word: u64, e: usize) -> u64
-    ensures { (k : ℕ) → bit result k ≡ (bit word k || (k == e && nat_lt e 64)) }
-{
-    if e < 64 { word | 1 << e } else { word }
 }
 
 pub(crate) fn has_bit(word: u64, e: usize) -> bool
@@ -39,18 +34,21 @@ pub(crate) fn same_bits(a: u64, b: u64) -> bool
     a == b
 }
 
+#[tactic(auto, using(crate::proofs::Bits::bit_of_or))]
 pub(crate) fn either_bits(a: u64, b: u64) -> u64
     ensures { (k : ℕ) → bit result k ≡ (bit a k || bit b k) }
 {
     a | b
 }
 
+#[tactic(auto, using(crate::proofs::Bits::bit_without))]
 pub(crate) fn bits_without(a: u64, b: u64) -> u64
     ensures { (k : ℕ) → bit result k ≡ (bit a k && not (bit b k)) }
 {
     a & !b
 }
 
+#[tactic(auto, using(crate::proofs::Bits::bit_of_and))]
 pub(crate) fn both_bits(a: u64, b: u64) -> u64
     ensures { (k : ℕ) → bit result k ≡ (bit a k && bit b k) }
 {

@@ -1,4 +1,4 @@
-use Rattle.std.proofs.Common.{ℕ, ◌^◌, ◌<◌, ap, rules}
+use Rattle.std.proofs.Common.{ℕ, ap}
 use Rattle.std.proofs.lemmas.Bool.{eqb-true, eq-eqb}
 use Rattle.sets.specs.Bits.{bit}
 use Rattle.sets.proofs.Bits.{same_bits}
@@ -8,6 +8,4 @@ pub returns : goal.returns
 returns c =
     let a = c.args.a in
     let b = c.args.b in
-    let fa : c.args.a < 2 ^ 64 = search rules in
-    let fb : c.args.b < 2 ^ 64 = search rules in
-    (λ t e. ap (λ (x : ℕ). bit x e) (eqb-true a b t), λ same. eq-eqb a b (same_bits 64 a b fa fb same))
+    (λ t e. ap (λ (x : ℕ). bit x e) (eqb-true a b t), λ same. eq-eqb a b (same_bits a b same))
