@@ -1,7 +1,4 @@
-pub mod Views
-pub mod Adds
-pub mod Refused
-pub mod Answering
-pub mod Somes
+pub mod Below
+pub mod Records
 pub mod Checks
 pub mod Judging

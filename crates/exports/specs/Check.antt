@@ -1,20 +1,10 @@
 -- What a finished panel is refused for, and in which order.
-use Rattle.std.specs.Prelude.{◌≡◌, ℕ, zero, suc, ◌-◌, ◌<◌, ◌≤◌, Bool, true, false, cond, not, ◌&&◌, ◌||◌, List, [], ◌∷◌, ◌++◌, length, take, Ok, Err, Result, ◌==◌, nat_eq, nat_le, slice_index, slice_index_or}
-use Rattle.std.specs.List.{flat_map, ContainsAt as Has}
+use Rattle.std.specs.Prelude.{◌≡◌, ℕ, ◌-◌, ◌<◌, ◌≤◌, Bool, true, false, cond, not, ◌&&◌, List, ◌∷◌, ◌++◌, length, take, Ok, Err, Result, ◌==◌, nat_eq, nat_le, slice_index, slice_index_or}
+use Rattle.std.specs.List.{flat_map, list_any, range_with_len, ContainsAt as Has}
 use Rattle.std.specs.Option.{option_to_list}
 use Rattle.tables.specs.declared.refusal.Refusal.{Refusal}
 use Rattle.tables.specs.declared.refusal.Refusal.TheVariants.{Limit, ModuleOutOfRange, ExternalRuntime, EntryApart}
 use Rattle.tables.specs.Panel.{Panel, count, external, starts}
-
--- some element passes
-abbrev pub some : {A : Type 0} → (A → Bool) → List A → Bool
-some test [] = false
-some test (x ∷ xs) = test x || some test xs
-
--- some number below n passes
-abbrev pub some_below : (ℕ → Bool) → ℕ → Bool
-some_below test zero = false
-some_below test (suc n) = test n || some_below test n
 
 -- the module numbers that the records resolve to
 abbrev pub resolved_numbers : Panel → List ℕ
@@ -26,16 +16,16 @@ named p = p.runtime ∷ (starts p ++ (p.listed ++ resolved_numbers p))
 
 -- entry e is of another module than the entry before it, and of the same as some earlier one
 abbrev pub apart_at : List ℕ → ℕ → Bool
-apart_at modules e = not (slice_index modules (e - 1) == slice_index modules e) && some (λ m. nat_eq m (slice_index modules e)) (take e modules)
+apart_at modules e = not (slice_index modules (e - 1) == slice_index modules e) && list_any (λ m. nat_eq m (slice_index modules e)) (take e modules)
 
 abbrev pub some_apart : List ℕ → Bool
-some_apart modules = some_below (apart_at modules) (length modules)
+some_apart modules = list_any (apart_at modules) (range_with_len 0 (length modules))
 
 -- the smallest refusal of a finished panel
 abbrev pub verdict : Panel → Result (Unit {0}) Refusal
 verdict p =
     cond (count p == 0) (Err Limit)
-    (cond (some (nat_le (count p)) (named p)) (Err ModuleOutOfRange)
+    (cond (list_any (nat_le (count p)) (named p)) (Err ModuleOutOfRange)
     (cond (external p p.runtime) (Err ExternalRuntime)
     (cond (some_apart (starts p)) (Err EntryApart) (Ok tt))))
 

@@ -1,74 +1,64 @@
-ghost use Rattle.std.specs.Prelude.{◌≡◌, [], ◌∷◌, ◌++◌, length, is_ok, if◌then◌else◌};
-ghost use Rattle.exports.specs.Limits.{module_refusal, import_refusal, entry_refusal, listed_refusal};
-ghost use Rattle.exports.specs.Steps.{Answered, with_module, new_module, with_import, with_entry, with_listed};
-ghost use Rattle.tables.specs.View.{panel_of, import_of, entry_of};
+ghost use Rattle.std.specs.Prelude.{◌≡◌, ◌+◌, ◌<◌, [], ◌∷◌, ◌++◌, length, cond, is_ok, if◌then◌else◌, Some, None, nat_lt};
+ghost use Rattle.tables.specs.declared.refusal.Refusal.TheVariants.{Limit};
+ghost use Rattle.exports.specs.Steps.{Answered, with_module, new_module, with_import};
+ghost use Rattle.tables.specs.View.{panel_of, import_of};
 
-use crate::build::{push_entry, push_import_record, push_listed, push_module};
-use crate::export::{BuildError, Export};
-use crate::limits::{entry_refusal, import_refusal, listed_refusal, module_refusal};
-use tables::index::ModuleIdx;
-use tables::module::{EntryPoint, ImportRecord, ModuleFlags};
+use crate::export::BuildError;
+use crate::limits::room_below;
+use std::alloc::AllocError;
+use tables::module::{ImportRecord, Module, ModuleFlags};
 use tables::table::Table;
 
-// Each of these adds one thing if no limit refuses it.
+// Each of these adds one thing, or leaves all as it was.
 
-pub(crate) fn add_marked_module(
-    export: &mut Export,
+pub(crate) fn push_module(
+    table: &mut Table,
     flags: ModuleFlags,
     exec_order: u32,
     id: &[u8],
-) -> Result<(), BuildError>
-    ensures panel { Answered (module_refusal (panel_of export.old.table) id.now) (panel_of export.old.table) (with_module (new_module flags exec_order id.now) (panel_of export.old.table)) result (panel_of export.new.table) }
-    ensures marks { export.new.included.marks.items ≡ (if is_ok result then export.old.included.marks.items ++ flags.included ∷ [] else export.old.included.marks.items) }
+) -> Result<(), AllocError>
+    requires modules { length table.old.modules.items < 512 }
+    requires bytes { table.old.id_bytes + length id.now < 65536 }
+    ensures panel { panel_of table.new ≡ (if is_ok result then with_module (new_module flags exec_order id.now) (panel_of table.old) else panel_of table.old) }
+    ensures len { length table.new.modules.items ≡ length table.old.modules.items + (if is_ok result then 1 else 0) }
 {
-    if let Some(why) = module_refusal(&export.table, id) {
-        return Err(BuildError::Refused(why));
-    }
-    let Ok(()) = export.included.marks.reserve(1) else {
-        return Err(BuildError::OutOfMemory);
+    let heap = *table.modules.allocator();
+    let module = Module {
+        external: flags.external,
+        json: flags.json,
+        order_sensitive: flags.order_sensitive,
+        wrap_kind: flags.wrap_kind,
+        exec_order,
+        id: id.to_vec(heap)?,
+        import_records: Vec::new(heap),
     };
-    if !push_module(&mut export.table, flags, exec_order, id) {
-        return Err(BuildError::OutOfMemory);
-    }
-    export.included.marks.push_reserved(flags.included);
+    table.modules.push(module)?;
+    table.id_bytes += id.len();
     Ok(())
 }
 
-pub(crate) fn add_record(table: &mut Table, record: ImportRecord) -> Result<(), BuildError>
-    ensures panel { Answered (import_refusal (panel_of table.old)) (panel_of table.old) (with_import (import_of «record») (panel_of table.old)) result (panel_of table.new) }
+// The record is of the latest module.
+pub(crate) fn push_record(table: &mut Table, record: ImportRecord) -> Result<(), AllocError>
+    requires latest { 0 < length table.old.modules.items }
+    requires room { table.old.record_count < 8192 }
+    ensures panel { panel_of table.new ≡ (if is_ok result then with_import (import_of «record») (panel_of table.old) else panel_of table.old) }
     ensures len { length table.new.modules.items ≡ length table.old.modules.items }
 {
-    if let Some(why) = import_refusal(table) {
-        return Err(BuildError::Refused(why));
-    }
-    if !push_import_record(table, record) {
-        return Err(BuildError::OutOfMemory);
-    }
+    let last = table.modules.len() - 1;
+    table.modules[last].import_records.push(record)?;
+    table.record_count += 1;
     Ok(())
 }
 
-pub(crate) fn add_entry_point(table: &mut Table, entry: EntryPoint) -> Result<(), BuildError>
-    ensures panel { Answered (entry_refusal (panel_of table.old)) (panel_of table.old) (with_entry (entry_of entry) (panel_of table.old)) result (panel_of table.new) }
-    ensures modules { table.new.modules ≡ table.old.modules }
+// One thing more at a list's end, if it keeps a limit.
+pub(crate) fn push_below<T: Drop>(
+    limit: usize,
+    list: &mut Vec<T>,
+    item: T,
+) -> Result<(), BuildError>
+    ensures { Answered (cond (nat_lt (length list.old.items) limit) None (Some Limit)) list.old.items (list.old.items ++ item ∷ []) result list.new.items }
 {
-    if let Some(why) = entry_refusal(table) {
-        return Err(BuildError::Refused(why));
-    }
-    if !push_entry(table, entry) {
-        return Err(BuildError::OutOfMemory);
-    }
-    Ok(())
-}
-
-pub(crate) fn add_listed_module(table: &mut Table, m: ModuleIdx) -> Result<(), BuildError>
-    ensures panel { Answered (listed_refusal (panel_of table.old)) (panel_of table.old) (with_listed m.0 (panel_of table.old)) result (panel_of table.new) }
-    ensures modules { table.new.modules ≡ table.old.modules }
-{
-    if let Some(why) = listed_refusal(table) {
-        return Err(BuildError::Refused(why));
-    }
-    if !push_listed(table, m) {
-        return Err(BuildError::OutOfMemory);
-    }
+    room_below(limit, list.len())?;
+    list.push(item)?;
     Ok(())
 }

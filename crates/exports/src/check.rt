@@ -1,6 +1,7 @@
 ghost use Rattle.std.specs.Prelude.{◌≡◌, ◌<◌, map, length, nat_eq};
+ghost use Rattle.std.specs.List.{list_any};
 ghost use Rattle.exports.specs.Beyond.{some_beyond};
-ghost use Rattle.exports.specs.Check.{some, apart_at, some_apart, verdict, Judged};
+ghost use Rattle.exports.specs.Check.{apart_at, some_apart, verdict, Judged};
 ghost use Rattle.tables.specs.View.{panel_of};
 
 use crate::names::{NamesModule, any_beyond};
@@ -9,7 +10,7 @@ use tables::module::EntryPoint;
 use tables::refusal::Refusal;
 use tables::table::Table;
 
-// Whether a finished table may be used, or the smallest refusal of it.
+// Whether a finished table may be used, or the smallest refusal of it. Apart from `Export::check`, so that a wrong answer there is refused for the promise.
 pub(crate) fn judge(table: &Table) -> Result<(), Refusal>
     ensures verdict { result ≡ verdict (panel_of table.now) }
     ensures judged { Judged (panel_of table.now) result }
@@ -23,7 +24,7 @@ pub(crate) fn judge(table: &Table) -> Result<(), Refusal>
     if table.is_external(table.options.runtime_module) {
         return Err(Refusal::ExternalRuntime);
     }
-    if any_apart(table.entries.as_slice()) {
+    if any_apart(&table.entries) {
         return Err(Refusal::EntryApart);
     }
     Ok(())
@@ -31,31 +32,20 @@ pub(crate) fn judge(table: &Table) -> Result<(), Refusal>
 
 // Whether some number in the table is of no module.
 fn names_beyond(table: &Table) -> bool
-    ensures { result ≡ some_beyond (length table.now.modules.items) table.now.options table.now.entries.items table.now.listed.items table.now.records.items }
+    ensures { result ≡ some_beyond (length table.now.modules.items) table.now.options table.now.entries.items table.now.listed.items table.now.modules.items }
 {
     let count = table.modules.len();
-    if table.options.runtime_module.is_beyond(count) {
-        return true;
-    }
-    if any_beyond(count, table.entries.as_slice()) {
-        return true;
-    }
-    if any_beyond(count, table.listed.as_slice()) {
-        return true;
-    }
-    any_beyond(count, table.records.as_slice())
+    table.options.runtime_module.is_beyond(count)
+        || any_beyond(count, &table.entries)
+        || any_beyond(count, &table.listed)
+        || any_beyond(count, &table.modules)
 }
 
 // Whether some entry is of a module.
 fn any_of(entries: &[EntryPoint], m: ModuleIdx) -> bool
-    ensures { result ≡ some (λ e. nat_eq e.«module».0 m.0) entries.now }
+    ensures { result ≡ list_any (λ e. nat_eq e.«module».0 m.0) entries.now }
 {
-    for entry in entries {
-        if entry.module.0 == m.0 {
-            return true;
-        }
-    }
-    false
+    entries.iter().any(|entry| entry.module == m)
 }
 
 // Whether an entry stands apart from an earlier entry of its module.
@@ -63,24 +53,16 @@ fn is_apart(entries: &[EntryPoint], e: usize) -> bool
     requires { e < length entries.now }
     ensures { result ≡ apart_at (map (λ e. e.«module».0) entries.now) e }
 {
-    if e == 0 {
-        return false;
-    }
-    let before = entries[e - 1].module;
+    let before = entries[e.saturating_sub(1)].module;
     let module = entries[e].module;
-    if before.0 == module.0 {
+    if before == module {
         return false;
     }
-    any_of(&entries[0..e], module)
+    any_of(&entries[..e], module)
 }
 
 fn any_apart(entries: &[EntryPoint]) -> bool
     ensures { result ≡ some_apart (map (λ e. e.«module».0) entries.now) }
 {
-    for e in 0..entries.len() {
-        if is_apart(entries, e) {
-            return true;
-        }
-    }
-    false
+    (0..entries.len()).any(|e| is_apart(entries, e))
 }

@@ -2,7 +2,6 @@
 #![tactic(auto)]
 
 mod add;
-mod build;
 mod check;
 pub mod export;
 mod limits;

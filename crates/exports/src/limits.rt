@@ -1,5 +1,8 @@
-ghost use Rattle.std.specs.Prelude.{◌≡◌, length};
-ghost use Rattle.exports.specs.Limits.{module_room, import_room, entry_room, listed_room};
+ghost use Rattle.std.specs.Prelude.{◌≡◌, cond, length, Some, None, nat_lt};
+ghost use Rattle.std.specs.Result.{result_err};
+ghost use Rattle.tables.specs.declared.refusal.Refusal.TheVariants.{Limit};
+ghost use Rattle.tables.specs.View.{panel_of};
+ghost use Rattle.exports.specs.Limits.{module_refusal, import_refusal, import_room};
 
 use tables::refusal::Refusal;
 use tables::table::Table;
@@ -16,47 +19,35 @@ pub(crate) const ENTRY_LIMIT: usize = 64;
 
 pub(crate) const LISTED_LIMIT: usize = 512;
 
-// Why one thing more is refused, or none where there is room for it.
-pub(crate) fn module_refusal(table: &Table, id: &[u8]) -> Option<Refusal>
-    ensures { result ≡ module_room (length table.now.modules.items) (length table.now.ids.items) (length id.now) }
+// Whether one thing more keeps a limit.
+pub(crate) fn room_below(limit: usize, count: usize) -> Result<(), Refusal>
+    ensures { result_err result ≡ cond (nat_lt count limit) None (Some Limit) }
+{
+    if count < limit {
+        Ok(())
+    } else {
+        Err(Refusal::Limit)
+    }
+}
+
+// Whether one module more, with this id, keeps the limits.
+pub(crate) fn room_for_module(table: &Table, id: &[u8]) -> Result<(), Refusal>
+    ensures { result_err result ≡ module_refusal (panel_of table.now) id.now }
 {
     let len = id.len();
-    if table.modules.len() >= MODULE_LIMIT
-        || len < 1
-        || len > ID_LIMIT
-        || table.ids.len() > ID_BYTES_LIMIT - len
-    {
-        return Some(Refusal::Limit);
+    if len < 1 || len > ID_LIMIT || table.id_bytes > ID_BYTES_LIMIT - len {
+        return Err(Refusal::Limit);
     }
-    None
+    room_below(MODULE_LIMIT, table.len())
 }
 
-pub(crate) fn import_refusal(table: &Table) -> Option<Refusal>
-    ensures { result ≡ import_room (length table.now.modules.items) (length table.now.records.items) }
+// Whether one record more, of the latest module, keeps the limits.
+pub(crate) fn room_for_record(table: &Table) -> Result<(), Refusal>
+    ensures counts { result_err result ≡ import_room (length table.now.modules.items) table.now.record_count }
+    ensures panel { result_err result ≡ import_refusal (panel_of table.now) }
 {
-    if table.modules.len() == 0 {
-        return Some(Refusal::OutOfStage);
+    if table.modules.is_empty() {
+        return Err(Refusal::OutOfStage);
     }
-    if table.records.len() >= IMPORT_RECORD_LIMIT {
-        return Some(Refusal::Limit);
-    }
-    None
-}
-
-pub(crate) fn entry_refusal(table: &Table) -> Option<Refusal>
-    ensures { result ≡ entry_room (length table.now.entries.items) }
-{
-    if table.entries.len() >= ENTRY_LIMIT {
-        return Some(Refusal::Limit);
-    }
-    None
-}
-
-pub(crate) fn listed_refusal(table: &Table) -> Option<Refusal>
-    ensures { result ≡ listed_room (length table.now.listed.items) }
-{
-    if table.listed.len() >= LISTED_LIMIT {
-        return Some(Refusal::Limit);
-    }
-    None
+    room_below(IMPORT_RECORD_LIMIT, table.record_count)
 }

@@ -1,10 +1,9 @@
-ghost use Rattle.std.specs.Prelude.{◌≡◌, ℕ, Bool, leb, nat_le};
-ghost use Rattle.std.specs.Option.{option_to_list, option_map};
-ghost use Rattle.exports.specs.Check.{some};
-ghost use Rattle.tables.specs.View.{number};
+ghost use Rattle.std.specs.Prelude.{◌≡◌, ℕ, Bool, nat_le, vec_items};
+ghost use Rattle.std.specs.List.{list_any};
+ghost use Rattle.exports.specs.Beyond.{resolves_beyond};
 
 use tables::index::ModuleIdx;
-use tables::module::{EntryPoint, ImportRecord};
+use tables::module::{EntryPoint, ImportRecord, Module};
 
 // What names a module, or may name one.
 pub(crate) trait NamesModule {
@@ -19,7 +18,7 @@ impl NamesModule for ModuleIdx {
     ghost beyond = { λ count m. nat_le count m.0 };
 
     fn is_beyond(&self, count: usize) -> bool {
-        self.0 as usize >= count
+        usize::from(*self) >= count
     }
 }
 
@@ -27,29 +26,30 @@ impl NamesModule for EntryPoint {
     ghost beyond = { λ count e. nat_le count e.«module».0 };
 
     fn is_beyond(&self, count: usize) -> bool {
-        self.module.0 as usize >= count
+        self.module.is_beyond(count)
     }
 }
 
 impl NamesModule for ImportRecord {
-    ghost beyond = { λ count r. some (leb count) (option_to_list (option_map number r.resolved_module)) };
+    ghost beyond = { resolves_beyond };
 
     fn is_beyond(&self, count: usize) -> bool {
-        match self.resolved_module {
-            Some(m) => m.0 as usize >= count,
-            None => false,
-        }
+        self.resolved_module.is_some_and(|m| m.is_beyond(count))
+    }
+}
+
+// A module names those that its records resolve to.
+impl NamesModule for Module {
+    ghost beyond = { λ count m. list_any (resolves_beyond count) (vec_items m.import_records) };
+
+    fn is_beyond(&self, count: usize) -> bool {
+        any_beyond(count, &self.import_records)
     }
 }
 
 // Whether one of them names a number at or above a count of modules.
 pub(crate) fn any_beyond<T: NamesModule>(count: usize, items: &[T]) -> bool
-    ensures { result ≡ some (T.NamesModule.beyond count) items.now }
+    ensures { result ≡ list_any (T.NamesModule.beyond count) items.now }
 {
-    for item in items {
-        if item.is_beyond(count) {
-            return true;
-        }
-    }
-    false
+    items.iter().any(|item| item.is_beyond(count))
 }

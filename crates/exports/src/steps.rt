@@ -4,15 +4,16 @@ ghost use Rattle.exports.specs.Limits.{module_refusal, import_refusal, entry_ref
 ghost use Rattle.exports.specs.Steps.{Answered, empty_panel, with_module, new_module, with_import, with_entry, with_listed};
 ghost use Rattle.tables.specs.View.{panel_of, import_of, entry_of};
 
-use crate::add::{add_entry_point, add_listed_module, add_marked_module, add_record};
-use crate::build::empty_table;
+use crate::add::{push_below, push_module, push_record};
 use crate::check::judge;
 use crate::export::{BuildError, Export};
+use crate::limits::{ENTRY_LIMIT, LISTED_LIMIT, room_for_module, room_for_record};
 use std::alloc::Global;
 use tables::included::Included;
 use tables::index::ModuleIdx;
 use tables::module::{EntryPoint, ImportRecord, ModuleFlags, Options};
 use tables::refusal::Refusal;
+use tables::table::Table;
 
 // Each step adds its one thing, or changes nothing.
 impl Export {
@@ -22,7 +23,14 @@ impl Export {
         ensures marks { result.included.marks.items ≡ [] }
     {
         Export {
-            table: empty_table(heap, options),
+            table: Table {
+                options,
+                modules: Vec::new(heap),
+                id_bytes: 0,
+                record_count: 0,
+                entries: Vec::new(heap),
+                listed: Vec::new(heap),
+            },
             included: Included {
                 marks: Vec::new(heap),
             },
@@ -39,7 +47,11 @@ impl Export {
         ensures panel { Answered (module_refusal (panel_of self.old.table) id.now) (panel_of self.old.table) (with_module (new_module flags exec_order id.now) (panel_of self.old.table)) result (panel_of self.new.table) }
         ensures marks { self.new.included.marks.items ≡ (if is_ok result then self.old.included.marks.items ++ flags.included ∷ [] else self.old.included.marks.items) }
     {
-        add_marked_module(self, flags, exec_order, id)
+        room_for_module(&self.table, id)?;
+        self.included.marks.reserve(1)?;
+        push_module(&mut self.table, flags, exec_order, id)?;
+        self.included.marks.push_reserved(flags.included);
+        Ok(())
     }
 
     // One record more of the latest module.
@@ -47,7 +59,9 @@ impl Export {
         ensures panel { Answered (import_refusal (panel_of self.old.table)) (panel_of self.old.table) (with_import (import_of «record») (panel_of self.old.table)) result (panel_of self.new.table) }
         ensures marks { self.new.included ≡ self.old.included }
     {
-        add_record(&mut self.table, record)
+        room_for_record(&self.table)?;
+        push_record(&mut self.table, record)?;
+        Ok(())
     }
 
     // One entry more.
@@ -55,7 +69,7 @@ impl Export {
         ensures panel { Answered (entry_refusal (panel_of self.old.table)) (panel_of self.old.table) (with_entry (entry_of entry) (panel_of self.old.table)) result (panel_of self.new.table) }
         ensures marks { self.new.included ≡ self.old.included }
     {
-        add_entry_point(&mut self.table, entry)
+        push_below(ENTRY_LIMIT, &mut self.table.entries, entry)
     }
 
     // One listed module more.
@@ -63,7 +77,7 @@ impl Export {
         ensures panel { Answered (listed_refusal (panel_of self.old.table)) (panel_of self.old.table) (with_listed m.0 (panel_of self.old.table)) result (panel_of self.new.table) }
         ensures marks { self.new.included ≡ self.old.included }
     {
-        add_listed_module(&mut self.table, m)
+        push_below(LISTED_LIMIT, &mut self.table.listed, m)
     }
 
     // Whether a finished export may be used, or the smallest refusal of it.

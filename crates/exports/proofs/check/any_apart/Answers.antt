@@ -1,25 +1,14 @@
-use Rattle.std.proofs.Common.{◌≡◌, ◌<◌, length, sym, ap, ◌∙◌, add-one, arith}
+use Rattle.std.proofs.Common.{◌≡◌, length, sym, ap, ◌∙◌, arith, rules, tests}
+use Rattle.std.specs.List.{list_any, range_with_len}
 use Rattle.std.proofs.lemmas.List.{length-map}
-use Rattle.std.proofs.lemmas.Bool.{or_from}
-use Rattle.exports.specs.Check.{apart_at, some_below}
+use Rattle.std.proofs.lemmas.Iterator.{YieldsList-from_range}
+use Rattle.std.proofs.lemmas.Iterator.Search.{any_from_yields_List}
+use Rattle.exports.specs.Check.{apart_at}
 use Rattle.exports.proofs.Checks.{of_entries}
-use Rattle.exports.proofs.Somes.{some_below_at}
 use Rattle.exports.proofs.check.any_apart.Goals as goal
-
-pub returns-then-is_apart : goal.returns-then-is_apart
-returns-then-is_apart c =
-    let ms = of_entries c.args.entries.now in
-    let long : length ms ≡ length c.args.entries.now = length-map c.args.entries.now _ in
-    let within : c.loop-e.e < length ms = omega arith in
-    sym (some_below_at (apart_at ms) (length ms) c.loop-e.e within (sym c.if-is_apart.ensures))
-
-pub loop-e-preserved : goal.loop-e-preserved
-loop-e-preserved c =
-    let ms = of_entries c.args.entries.now in
-    rw add-one (or_from (apart_at ms c.loop-e.e) (some_below (apart_at ms) c.loop-e.e) (sym c.if-is_apart.ensures) c.loop-e.invariant)
 
 pub returns : goal.returns
 returns c =
-    let ms = of_entries c.args.entries.now in
-    let end : length ms ≡ c.loop-e.e = length-map c.args.entries.now _ ∙ omega arith in
-    sym (ap (some_below (apart_at ms)) end ∙ c.loop-e.invariant)
+    let es = c.args.entries.now in
+    let by_entries : c.any.result ≡ list_any (apart_at (of_entries es)) (range_with_len 0 (length es)) = any_from_yields_List (apart_at (of_entries es)) _ _ c.any.result c.any.ensures.ran (YieldsList-from_range 0 (length es) (length es) (search rules) (omega arith)) (λ x b q k. search (rules, tests)) in
+    by_entries ∙ ap (λ n. list_any (apart_at (of_entries es)) (range_with_len 0 n)) (sym (length-map es _))

@@ -1,8 +1,6 @@
-use Rattle.std.proofs.Common.{true, false, List, sym, refl, ap, ◌∙◌}
+use Rattle.std.proofs.Common.{true, false, sym, refl, ◌∙◌, rules}
 use Rattle.std.proofs.lemmas.Bool.{eq-eqb, ne_eqb}
-use Rattle.tables.specs.declared.module.EntryPoint.{EntryPoint}
-use Rattle.exports.specs.Check.{some_apart}
-use Rattle.exports.proofs.Checks.{verdict_by, of_entries}
+use Rattle.exports.proofs.Checks.{verdict_by}
 use Rattle.tables.specs.View.{panel_of}
 use Rattle.exports.proofs.Judging.{judged_by}
 use Rattle.exports.proofs.check.judge.Goals as goal
@@ -24,10 +22,10 @@ returns-then-is_external c =
 
 pub returns-then-any_apart : goal.returns-then-any_apart
 returns-then-any_apart c =
-    let e = verdict_by c.args.table.now false false false true (ne_eqb _ 0 (λ e. c.if-len-eq0.false (c.len.ensures ∙ e))) (sym c.if-names_beyond.ensures) (sym c.if-is_external.ensures) (sym (c.if-any_apart.ensures ∙ ap (λ (es : List EntryPoint). some_apart (of_entries es)) c.as_slice.ensures.value)) in
+    let e = verdict_by c.args.table.now false false false true (ne_eqb _ 0 (λ e. c.if-len-eq0.false (c.len.ensures ∙ e))) (sym c.if-names_beyond.ensures) (sym c.if-is_external.ensures) (search rules) in
     record { verdict = e; judged = judged_by (panel_of c.args.table.now) _ e }
 
 pub returns : goal.returns
 returns c =
-    let e = verdict_by c.args.table.now false false false false (ne_eqb _ 0 (λ e. c.if-len-eq0.false (c.len.ensures ∙ e))) (sym c.if-names_beyond.ensures) (sym c.if-is_external.ensures) (sym (c.if-any_apart.ensures ∙ ap (λ (es : List EntryPoint). some_apart (of_entries es)) c.as_slice.ensures.value)) in
+    let e = verdict_by c.args.table.now false false false false (ne_eqb _ 0 (λ e. c.if-len-eq0.false (c.len.ensures ∙ e))) (sym c.if-names_beyond.ensures) (sym c.if-is_external.ensures) (search rules) in
     record { verdict = e; judged = judged_by (panel_of c.args.table.now) _ e }
