@@ -1,7 +1,7 @@
 -- Bytes of two digits each.
-use Rattle.std.proofs.Common.{◌≡◌, ℕ, zero, suc, ◌+◌, ◌-◌, ◌*◌, ◌/◌, ◌%◌, ◌^◌, ◌<◌, ◌≤◌, Bool, true, false, ◌&&◌, eqb, List, [], ◌∷◌, ◌++◌, length, get_or, take, drop, is_some, Some, None, Option, sym, refl, ap, ◌∙◌, append_assoc, mul-le-mul_right, mul_assoc, mul_comm, arith, lit<}
+use Rattle.std.proofs.Common.{◌≡◌, ℕ, zero, suc, ◌+◌, ◌-◌, ◌*◌, ◌%◌, ◌^◌, ◌<◌, ◌≤◌, Bool, true, false, ◌&&◌, eqb, List, [], ◌∷◌, ◌++◌, length, get_or, take, drop, is_some, Some, None, Option, sym, refl, ap, ◌∙◌, append_assoc, mul-le-mul_right, mul_assoc, mul_comm, arith, lit<}
 use native.Mathlib.Nat.{pow-succ', pow-le-pow_right}
-use Rattle.std.proofs.lemmas.List.{drop_more, drop_all, append-nil, length-take}
+use Rattle.std.proofs.lemmas.List.{length-take, take_all}
 use Rattle.std.specs.List.{between}
 use Rattle.std.specs.Option.{option_map}
 use Rattle.digits.specs.Digits.{value_of, both, values_of, number_after, number_in, big_endian, byte_of, bytes_in}
@@ -22,12 +22,6 @@ module _ {A B C : Type 0} (f : A → B → C) where
   none_both : (p : Option B) → both f None p ≡ None
   none_both (Some b) = refl
   none_both None = refl
-
--- a line of an odd number of digits has no bytes
-pub odd_none : (bs : List ℕ) → (length bs % 2 ≡ 0 → ⊥) → bytes_in bs ≡ None
-odd_none [] h = absurd (h refl)
-odd_none (a ∷ []) h = refl
-odd_none (a ∷ (b ∷ rest)) h = ap (both (λ byte bytes. byte ∷ bytes) (byte_of a b)) (odd_none rest (λ e. h (omega arith))) ∙ both_none (λ byte bytes. byte ∷ bytes) (byte_of a b)
 
 -- the bytes of a line with at least two digits: the first, and those of the rest
 abbrev First : ℕ → ℕ → List ℕ → List ℕ → Type 0
@@ -173,26 +167,16 @@ behind_one : (xs : List ℕ) (x : ℕ) (o : Option (List ℕ)) → behind xs (bo
 behind_one xs x (Some ys) = ap Some (sym (append_assoc xs (x ∷ []) ys))
 behind_one xs x None = refl
 
-pair : (k : ℕ) (text : List ℕ) → k < length text / 2 → drop (2 * k) text ≡ get_or text (2 * k) 0 ∷ (get_or text (2 * k + 1) 0 ∷ drop (2 * (k + 1)) text)
-pair k text h =
-    let one : 2 * k < length text = omega arith in
-    let two : 2 * k + 1 < length text = omega arith in
-    let on : 2 * k + 1 + 1 ≡ 2 * (k + 1) = omega arith in
-    drop_more text (2 * k) 0 one
-    ∙ ap (λ l. get_or text (2 * k) 0 ∷ l) (drop_more text (2 * k + 1) 0 two)
-    ∙ ap (λ m. get_or text (2 * k) 0 ∷ (get_or text (2 * k + 1) 0 ∷ drop m text)) on
+-- two digits more: the byte that they write, or none
+pub behind_more : (xs : List ℕ) (rest : List ℕ) (x : ℕ) → 2 ≤ length rest → Some x ≡ byte_of (get_or rest 0 0) (get_or rest 1 0) → behind xs (bytes_in rest) ≡ behind (xs ++ x ∷ []) (bytes_in (take (length rest - 2) (drop 2 rest)))
+behind_more xs [] x l e = absurd (omega arith)
+behind_more xs (a ∷ []) x l e = absurd (omega arith)
+behind_more xs (a ∷ (b ∷ rest)) x l e =
+    ap (λ o. behind xs (both (λ y ys. y ∷ ys) o (bytes_in rest))) (sym e)
+    ∙ behind_one xs x (bytes_in rest)
+    ∙ ap (λ r. behind (xs ++ x ∷ []) (bytes_in r)) (sym (take_all (length (a ∷ (b ∷ rest)) - 2) rest (omega arith)))
 
-pub behind_more : (xs : List ℕ) (k x : ℕ) (text : List ℕ) → k < length text / 2 → Some x ≡ byte_of (get_or text (2 * k) 0) (get_or text (2 * k + 1) 0) → behind xs (bytes_in (drop (2 * k) text)) ≡ behind (xs ++ x ∷ []) (bytes_in (drop (2 * (k + 1)) text))
-behind_more xs k x text h e =
-    ap (λ l. behind xs (bytes_in l)) (pair k text h)
-    ∙ ap (λ o. behind xs (both (λ y ys. y ∷ ys) o (bytes_in (drop (2 * (k + 1)) text)))) (sym e)
-    ∙ behind_one xs x (bytes_in (drop (2 * (k + 1)) text))
-
-pub behind_stop : (xs : List ℕ) (k : ℕ) (text : List ℕ) → k < length text / 2 → None ≡ byte_of (get_or text (2 * k) 0) (get_or text (2 * k + 1) 0) → behind xs (bytes_in (drop (2 * k) text)) ≡ None
-behind_stop xs k text h e =
-    ap (λ l. behind xs (bytes_in l)) (pair k text h)
-    ∙ ap (λ o. behind xs (both (λ y ys. y ∷ ys) o (bytes_in (drop (2 * (k + 1)) text)))) (sym e)
-    ∙ ap (behind xs) (none_both (λ y ys. y ∷ ys) (bytes_in (drop (2 * (k + 1)) text)))
-
-pub behind_all : (xs : List ℕ) (k : ℕ) (text : List ℕ) → length text ≤ 2 * k → behind xs (bytes_in (drop (2 * k) text)) ≡ Some xs
-behind_all xs k text h = ap (λ l. behind xs (bytes_in l)) (drop_all (2 * k) text h) ∙ ap Some (append-nil xs)
+pub behind_stop : (xs : List ℕ) (rest : List ℕ) → 2 ≤ length rest → None ≡ byte_of (get_or rest 0 0) (get_or rest 1 0) → behind xs (bytes_in rest) ≡ None
+behind_stop xs [] l e = absurd (omega arith)
+behind_stop xs (a ∷ []) l e = absurd (omega arith)
+behind_stop xs (a ∷ (b ∷ rest)) l e = ap (λ o. behind xs (both (λ y ys. y ∷ ys) o (bytes_in rest))) (sym e) ∙ ap (behind xs) (none_both (λ y ys. y ∷ ys) (bytes_in rest))

@@ -1,7 +1,7 @@
 // Upper-case hexadecimal: reading digits as numbers and bytes, and laying a number's digits. It uses no other crate.
 #![tactic(auto)]
 
-ghost use Rattle.std.specs.Prelude.{◌≡◌, ◌+◌, ◌*◌, ◌/◌, ◌%◌, ◌^◌, ◌<◌, ◌≤◌, leb, length, IfOk, if◌then◌else◌, Some, None, vec_items, nat_le};
+ghost use Rattle.std.specs.Prelude.{◌≡◌, ◌+◌, ◌*◌, ◌/◌, ◌%◌, ◌^◌, ◌<◌, ◌≤◌, leb, length, IfOk, if◌then◌else◌, Some, None, vec_items, is_ok, nat_le};
 ghost use Rattle.std.specs.Option.{option_map};
 ghost use Rattle.digits.specs.Digits.{value_of, digit_of, number_in, byte_of, bytes_in, digits};
 ghost use Rattle.digits.specs.Lay.{laid};
@@ -28,9 +28,7 @@ pub fn number(text: &[u8]) -> Option<u64>
     }
     let mut value: u64 = 0;
     for b in text {
-        let Some(d) = digit_value(*b) else {
-            return None;
-        };
+        let d = digit_value(*b)?;
         value = 16 * value + u64::from(d);
     }
     Some(value)
@@ -40,48 +38,47 @@ pub fn number(text: &[u8]) -> Option<u64>
 pub fn decode(heap: Global, text: &[u8]) -> Result<Option<Vec<u8>>, AllocError>
     ensures { IfOk result (λ o. option_map vec_items o ≡ bytes_in text.now) }
 {
-    if text.len() % 2 != 0 {
-        return Ok(None);
-    }
     let mut bytes = Vec::new(heap);
-    for k in 0..text.len() / 2 {
-        let Some(byte) = byte_value(text[2 * k], text[2 * k + 1]) else {
+    let mut rest = text;
+    while let [high, low, after @ ..] = rest {
+        let Some(byte) = byte_value(*high, *low) else {
             return Ok(None);
         };
         bytes.push(byte)?;
+        rest = after;
     }
-    Ok(Some(bytes))
+    if rest.is_empty() {
+        Ok(Some(bytes))
+    } else {
+        Ok(None)
+    }
 }
 
 // The byte that two digits write.
 fn byte_value(high: u8, low: u8) -> Option<u8>
     ensures { result ≡ byte_of high low }
 {
-    match (digit_value(high), digit_value(low)) {
-        (Some(h), Some(l)) => Some(16 * h + l),
-        _ => None,
-    }
+    let h = digit_value(high)?;
+    let l = digit_value(low)?;
+    Some(16 * h + l)
 }
 
-// Lays 2 * width digits of the value into the buffer from a place on; false, and nothing written, where they do not fit.
-pub fn lay_number(out: &mut [u8], at: usize, width: usize, value: u64) -> bool
-    ensures fits { result ≡ nat_le (at + 2 * width) (length out.old) }
-    ensures after { out.new ≡ (if result then laid out.old at (digits (2 * width) value) else out.old) }
-    ensures read_back { value < 16 ^ (2 * width) → number_in (digits (2 * width) value) ≡ Some value }
-{
-    lay_within(out, at, width, value)
-}
+// The digits do not fit into the buffer.
+#[derive(Clone, Copy, Debug, PartialEq, Eq)]
+pub struct NoRoom;
 
-fn lay_within(out: &mut [u8], at: usize, width: usize, value: u64) -> bool
-    ensures fits { result ≡ nat_le (at + 2 * width) (length out.old) }
-    ensures after { out.new ≡ (if result then laid out.old at (digits (2 * width) value) else out.old) }
+#[tactic(auto, using(crate::proofs::Hex::read_back))]
+// Lays 2 * width digits of the value into the buffer from a place on; nothing is written where they do not fit.
+pub fn lay_number(out: &mut [u8], at: usize, width: usize, value: u64) -> Result<(), NoRoom>
+    ensures fits { is_ok result ≡ nat_le (at + 2 * width) (length out.old) }
+    ensures after { out.new ≡ (if is_ok result then laid out.old at (digits (2 * width) value) else out.old) }
     ensures read_back { value < 16 ^ (2 * width) → number_in (digits (2 * width) value) ≡ Some value }
 {
     if !has_room(out.len(), at, width) {
-        return false;
+        return Err(NoRoom);
     }
     lay(out, at, 2 * width, value);
-    true
+    Ok(())
 }
 
 // Whether 2 * width digits from a place on end within a length; the sum itself may be past the largest number.
@@ -96,6 +93,7 @@ fn lay(out: &mut [u8], at: usize, count: usize, value: u64)
     requires { at + count ≤ length out.old }
     ensures { out.new ≡ laid out.old at (digits count value) }
 {
+    // By index, since nothing is known of what an adapter of `iter_mut` wrote.
     for i in 0..count {
         out[at + i] = digit_at(value, count - 1 - i);
     }
