@@ -1,11 +1,11 @@
 -- Lines that have bytes: their length, their fields, and what tells that they have.
-use Rattle.std.proofs.Common.{◌≡◌, ℕ, ◌+◌, ◌-◌, ◌*◌, ◌%◌, ◌^◌, ◌<◌, ◌≤◌, Bool, true, false, cond, ◌&&◌, eqb, leb, List, [], ◌∷◌, length, get_or, drop, is_some, Some, None, Option, unwrap_or, sym, refl, ap, ◌∙◌, arith}
-use Rattle.std.proofs.lemmas.List.{drop_more, length-take}
-use Rattle.std.proofs.lemmas.Bool.{le-leb, lt-leb, cond-true, and_from, and_left, and_right, eq-eqb, ne_eqb}
-use Rattle.std.specs.List.{between}
+use Rattle.std.proofs.Common.{◌≡◌, ℕ, ◌+◌, ◌-◌, ◌*◌, ◌%◌, ◌^◌, ◌<◌, ◌≤◌, Bool, true, false, cond, ◌&&◌, eqb, leb, List, [], ◌∷◌, length, drop, is_some, Some, None, Option, unwrap_or, sym, refl, ap, ◌∙◌, subst, arith}
+use Rattle.std.proofs.lemmas.List.{length-take}
+use Rattle.std.proofs.lemmas.Bool.{le-leb, cond-true}
+use Rattle.std.specs.List.{between, list_all}
 use Rattle.digits.specs.Digits.{value_of, values_of, number_in, bytes_in}
 use Rattle.digits.proofs.Bytes.{length_bytes, field_digits, field_below, some_both, some_bytes}
-use Rattle.frames.specs.Text.{bytes_of, line_bytes, field, letter}
+use Rattle.frames.specs.Text.{has_size, bytes_of, line_bytes, field, letter}
 
 known : (o : Option (List ℕ)) → is_some o ≡ true → o ≡ Some (unwrap_or o [])
 known (Some bytes) e = refl
@@ -41,33 +41,30 @@ some_line line =
     some_cond (leb 1 (length line) && leb (length line) 512) (bytes_in line)
     ∙ ap (λ t. (leb 1 (length line) && leb (length line) 512) && t) (some_bytes line)
 
-pub line_good : (line : List ℕ) → 1 ≤ length line → length line ≤ 512 → length line % 2 ≡ 0 → is_some (values_of line) ≡ true → is_some (line_bytes line) ≡ true
-line_good line low high even all =
-    some_line line
-    ∙ and_from _ _ (and_from _ _ (le-leb 1 _ low) (le-leb _ 512 high)) (and_from _ _ all (eq-eqb _ 0 even))
+pub all_digits : (line : List ℕ) → list_all (λ b. is_some (value_of b)) line ≡ is_some (values_of line)
+all_digits [] = refl
+all_digits (b ∷ bs) = ap (λ t. is_some (value_of b) && t) (all_digits bs) ∙ sym (some_both (λ v vs. v ∷ vs) (value_of b) (values_of bs))
 
-pub line_bad : (line : List ℕ) → is_some (values_of line) ≡ false → is_some (line_bytes line) ≡ false
-line_bad line none = some_line line ∙ and_right _ _ (and_left _ _ none)
+regroup : (x y z : Bool) → ((x && y) && z) ≡ (x && (z && y))
+regroup true true true = refl
+regroup true true false = refl
+regroup true false true = refl
+regroup true false false = refl
+regroup false y z = refl
 
-pub line_empty : (line : List ℕ) → length line < 1 → is_some (line_bytes line) ≡ false
-line_empty line h = some_line line ∙ and_left _ _ (and_left _ _ (lt-leb 1 _ h))
+-- a line is one of digits where its size is right and all are digits
+pub line_is : (line : List ℕ) → (has_size (length line) && list_all (λ b. is_some (value_of b)) line) ≡ is_some (line_bytes line)
+line_is line =
+    regroup (leb 1 (length line) && leb (length line) 512) (eqb (length line % 2) 0) (list_all (λ b. is_some (value_of b)) line)
+    ∙ ap (λ t. (leb 1 (length line) && leb (length line) 512) && (t && eqb (length line % 2) 0)) (all_digits line)
+    ∙ sym (some_line line)
 
-pub line_long : (line : List ℕ) → 512 < length line → is_some (line_bytes line) ≡ false
-line_long line h = some_line line ∙ and_left _ _ (and_right _ _ (lt-leb _ 512 h))
+pub line_sized : (line : List ℕ) → has_size (length line) ≡ true → list_all (λ b. is_some (value_of b)) line ≡ is_some (line_bytes line)
+line_sized line h = ap (λ t. t && list_all (λ b. is_some (value_of b)) line) (sym h) ∙ line_is line
 
-pub digits_more : (line : List ℕ) (i : ℕ) → i < length line → is_some (value_of (get_or line i 0)) ≡ true → is_some (values_of (drop (i + 1) line)) ≡ is_some (values_of (drop i line))
-digits_more line i h e =
-    sym (ap (λ l. is_some (values_of l)) (drop_more line i 0 h)
-    ∙ some_both (λ v vs. v ∷ vs) (value_of (get_or line i 0)) (values_of (drop (i + 1) line))
-    ∙ ap (λ t. t && is_some (values_of (drop (i + 1) line))) e)
+pub line_unsized : (line : List ℕ) → has_size (length line) ≡ false → false ≡ is_some (line_bytes line)
+line_unsized line h = ap (λ t. t && list_all (λ b. is_some (value_of b)) line) (sym h) ∙ line_is line
 
-pub digits_stop : (line : List ℕ) (i : ℕ) → i < length line → is_some (value_of (get_or line i 0)) ≡ false → is_some (values_of (drop i line)) ≡ false
-digits_stop line i h e =
-    ap (λ l. is_some (values_of l)) (drop_more line i 0 h)
-    ∙ some_both (λ v vs. v ∷ vs) (value_of (get_or line i 0)) (values_of (drop (i + 1) line))
-    ∙ ap (λ t. t && is_some (values_of (drop (i + 1) line))) e
-
-pub line_odd : (line : List ℕ) → (length line % 2 ≡ 0 → ⊥) → is_some (line_bytes line) ≡ false
-line_odd line h =
-    some_line line
-    ∙ and_right (leb 1 (length line) && leb (length line) 512) _ (and_right (is_some (values_of line)) _ (ne_eqb _ 0 h))
+-- a number of two bytes
+pub two_bytes : (from n : ℕ) → n < 256 ^ (from + 2 - from) → n < 65536
+two_bytes from n h = let two : from + 2 - from ≡ 2 = omega arith in subst (λ k. n < 256 ^ k) two h

@@ -1,12 +1,14 @@
 -- What is known of a line from its letter.
-use Rattle.std.proofs.Common.{◌≡◌, ℕ, ◌/◌, ◌≤◌, Bool, true, false, cond, ◌&&◌, leb, List, [], length, is_some, Some, None, Ok, Err, Option, Result, unwrap_or, sym, refl, ap, ◌∙◌, arith}
+use Rattle.std.proofs.Common.{◌≡◌, ℕ, ◌/◌, ◌≤◌, Bool, true, false, cond, ◌&&◌, leb, List, [], length, is_some, Some, None, Ok, Err, Option, Result, unwrap_or, sym, refl, ap, ◌∙◌, subst, arith}
 use Rattle.std.proofs.lemmas.Bool.{leb-true, and_parts, cond-true, cond-false}
 use Rattle.digits.specs.Digits.{bytes_in}
 use Rattle.tables.specs.declared.refusal.Refusal.{Refusal}
 use Rattle.tables.specs.declared.refusal.Refusal.TheVariants.{MalformedLine, UnknownFrame, OutOfStage}
 use Rattle.frames.specs.Text.{Said, bytes_of, line_bytes, letter, field, fits, fields, frame_under, letter_of}
-use Rattle.frames.specs.Stages.{takes, after, moved_by, Opens}
+use Rattle.frames.specs.Stages.{takes, after, moved_by}
+use Rattle.frames.specs.Lines.{Opens}
 use Rattle.frames.specs.declared.stage.Reader.{Reader}
+use Rattle.frames.specs.declared.line.Line.{Line}
 use Rattle.frames.proofs.Decoded.{line_length, first_byte}
 
 pub record Lettered (line : List ℕ) (c : ℕ) : Type 0 where
@@ -94,6 +96,9 @@ well line e =
     let twice = line_length line p.1 in
     record { some = omega arith; decodes = p.1; half = omega arith; says = ap letter_in p.2 }
 
+pub decodes : (line : Line) → is_some (bytes_in line.digits.now) ≡ true
+decodes line = (lettered line.digits.now line.letter line.known).decodes
+
 module _ (line : List ℕ) (c : ℕ) (known : is_some (line_bytes line) ≡ true) (is : c ≡ field (bytes_of line) 0 1) where
   first_is : c ≡ letter (bytes_of line)
   first_is = is ∙ first_byte (bytes_of line) (well line known).some
@@ -111,6 +116,8 @@ module _ (line : List ℕ) (c : ℕ) (known : is_some (line_bytes line) ≡ true
 pub moves : (r : Reader) (line : List ℕ) (c : ℕ) → letter_of line ≡ Ok c → moved_by r line true ≡ after r c
 moves r line c e = ap (λ l. elim l [ Ok d ↦ after r d | Err why ↦ r ]) e
 
-pub opens : (line : List ℕ) (r : Result ℕ Refusal) → r ≡ letter_of line → Opens line r
-opens line (Ok c) e = (framed (λ _. true) line c (sym e), λ r. framed (takes r) line c (sym e), λ r. moves r line c (sym e))
-opens line (Err why) e = (refused (λ _. true) line why (sym e), λ r. refused (takes r) line why (sym e))
+pub opens : (text : List ℕ) (line : Line) → line.digits.now ≡ text → Opens text (Ok line)
+opens text line same = subst (λ t. Opens t (Ok line)) same (framed (λ _. true) line.digits.now line.letter line.known, λ r. framed (takes r) line.digits.now line.letter line.known, λ r. moves r line.digits.now line.letter line.known)
+
+pub shut : (text : List ℕ) (r : Result Line Refusal) (why : Refusal) → r ≡ Err why → letter_of text ≡ Err why → Opens text r
+shut text r why is e = subst (Opens text) (sym is) (refused (λ _. true) text why e, λ q. refused (takes q) text why e)

@@ -17,8 +17,9 @@ use Rattle.tables.specs.declared.module.EntryPointKind.{EntryPointKind}
 use Rattle.tables.specs.declared.module.EntryPointKind.TheVariants.{UserDefined, EmittedUserDefined, DynamicImport}
 use Rattle.tables.specs.declared.module.ChunkModulesOrderBy.{ChunkModulesOrderBy}
 use Rattle.tables.specs.declared.module.ChunkModulesOrderBy.TheVariants.{ExecOrder, ModuleId}
-use Rattle.frames.specs.Text.{Said, options, a_module, import_record, listed, entry, linking, unlinking, including, excluding, drawing, bytes_of, letter, fits, field, module_at, bit, order_by, wrap_of, flags_of, import_kind, resolved, entry_kind, fields}
-use Rattle.frames.specs.Spelling.{two, four, flag, wrap_bits, flag_bits, order_bits, option_bits, import_number, entry_number, target, spell, Names, FitsFields, IdIn, Spells, ReadsWhatIsSpelled}
+use Rattle.frames.specs.Text.{Said, options, a_module, import_record, listed, entry, linking, unlinking, including, excluding, drawing, bytes_of, letter, fits, frame_of, field, module_at, order_by, resolved, fields}
+use Rattle.tables.specs.Kinds.{bit, wrap_of, flags_of, import_kind, entry_kind}
+use Rattle.frames.specs.Spelling.{two, four, flag, wrap_bits, flag_bits, order_bits, option_bits, import_number, entry_number, target, spell, Names, FitsFields, IdIn, Spells, Reads, ReadsWhatIsSpelled}
 
 -- numbers and their bytes
 two_read : (n : ℕ) → big_endian (two n) ≡ n
@@ -388,3 +389,6 @@ reads_what_is_spelled line f = (
   λ ok. spelled line f (leb 1 (length line) && leb (length line) 512) (bytes_in line) refl refl ok,
   λ s. ap (frame_in line) (cond-true _ _ _ (and_from _ _ (le-leb 1 _ s.some) (le-leb _ 512 s.short)) ∙ s.text) ∙ reads line f s.fits s.id,
 )
+
+pub reads_as : (line : List ℕ) (r : Result Said Refusal) → r ≡ frame_of line → Reads line r
+reads_as line r e = subst (Reads line) (sym e) (reads_what_is_spelled line)

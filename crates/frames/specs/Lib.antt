@@ -1,3 +1,4 @@
 pub mod Text
 pub mod Stages
 pub mod Spelling
+pub mod Lines

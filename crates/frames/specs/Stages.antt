@@ -1,10 +1,8 @@
 -- Which letters a reader takes where it stands, and where it stands then.
-use Rattle.std.specs.Prelude.{◌≡◌, ℕ, Bool, true, false, cond, ◌&&◌, ◌||◌, List, Ok, Err, Result, ◌==◌, nat_eq}
+use Rattle.std.specs.Prelude.{ℕ, Bool, true, false, cond, ◌&&◌, ◌||◌, List, Ok, Err, ◌==◌, nat_eq}
 use Rattle.frames.specs.declared.stage.Stage.{Stage}
 use Rattle.frames.specs.declared.stage.Stage.TheVariants.{Start, Tables, Calls}
-use Rattle.tables.specs.declared.refusal.Refusal.{Refusal}
-use Rattle.tables.specs.declared.refusal.Refusal.TheVariants.{OutOfStage}
-use Rattle.frames.specs.Text.{bytes_of, fields, frame_of, frame_under, letter_of}
+use Rattle.frames.specs.Text.{letter_of}
 use Rattle.frames.specs.declared.stage.Reader.{Reader}
 
 -- L, U, I, X and D
@@ -31,18 +29,3 @@ after r c = record { stage = stage_after r.stage c; any_module = r.any_module ||
 abbrev pub moved_by : Reader → List ℕ → Bool → Reader
 moved_by r line false = r
 moved_by r line true = elim (letter_of line) [ Ok c ↦ after r c | Err why ↦ r ]
-
--- what a line with a letter says, and where it moves each reader that takes it
-abbrev pub Opened : List ℕ → ℕ → Type 0
-Opened line c =
-    (frame_of line ≡ fields c line (bytes_of line))
-    × ((r : Reader) → frame_under (takes r) line ≡ cond (takes r c) (fields c line (bytes_of line)) (Err OutOfStage))
-    × ((r : Reader) → moved_by r line true ≡ after r c)
-
--- a line with no letter is refused, whatever came before it
-abbrev pub Shut : List ℕ → Refusal → Type 0
-Shut line why = (frame_of line ≡ Err why) × ((r : Reader) → frame_under (takes r) line ≡ Err why)
-
-abbrev pub Opens : List ℕ → Result ℕ Refusal → Type 0
-Opens line (Ok c) = Opened line c
-Opens line (Err why) = Shut line why

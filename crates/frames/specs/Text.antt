@@ -1,8 +1,9 @@
 -- What a line says: the text of each frame, by its bytes.
-use Rattle.std.specs.Prelude.{ℕ, ◌+◌, ◌/◌, ◌%◌, ◌^◌, Bool, true, false, cond, ◌&&◌, List, [], length, drop, Some, None, Ok, Err, Option, Result, ◌==◌, nat_le, nat_lt, slice_index}
+use Rattle.std.specs.Prelude.{ℕ, ◌+◌, ◌%◌, Bool, true, false, cond, ◌&&◌, List, [], length, drop, Some, None, Ok, Err, Option, Result, ◌==◌, nat_le, nat_lt, slice_index}
 use Rattle.std.specs.List.{between}
 use Rattle.std.specs.Option.{unwrap_or}
 use Rattle.digits.specs.Digits.{big_endian, bytes_in}
+use Rattle.tables.specs.Kinds.{bit, import_kind, entry_kind, flags_of}
 use Rattle.tables.specs.declared.refusal.Refusal.{Refusal}
 use Rattle.tables.specs.declared.refusal.Refusal.TheVariants.{MalformedLine, UnknownFrame, OutOfStage, FieldValue}
 use Rattle.tables.specs.declared.index.ModuleIdx.{ModuleIdx}
@@ -10,12 +11,6 @@ use Rattle.tables.specs.declared.module.ModuleFlags.{ModuleFlags}
 use Rattle.tables.specs.declared.module.ImportRecord.{ImportRecord}
 use Rattle.tables.specs.declared.module.EntryPoint.{EntryPoint}
 use Rattle.tables.specs.declared.module.Options.{Options}
-use Rattle.tables.specs.declared.module.WrapKind.{WrapKind}
-use Rattle.tables.specs.declared.module.WrapKind.TheVariants as wraps
-use Rattle.tables.specs.declared.module.ImportKind.{ImportKind}
-use Rattle.tables.specs.declared.module.ImportKind.TheVariants.{Other, Import}
-use Rattle.tables.specs.declared.module.EntryPointKind.{EntryPointKind}
-use Rattle.tables.specs.declared.module.EntryPointKind.TheVariants.{UserDefined, EmittedUserDefined, DynamicImport}
 use Rattle.tables.specs.declared.module.ChunkModulesOrderBy.{ChunkModulesOrderBy}
 use Rattle.tables.specs.declared.module.ChunkModulesOrderBy.TheVariants.{ExecOrder, ModuleId}
 use Rattle.frames.specs.declared.frame.Frame.{Frame}
@@ -50,6 +45,10 @@ abbrev pub viewed : Result Frame Refusal → Result Said Refusal
 viewed (Ok f) = Ok (said f)
 viewed (Err e) = Err e
 
+-- a line has 1 to 512 digits, two for each byte
+abbrev pub has_size : ℕ → Bool
+has_size n = (nat_le 1 n && nat_le n 512) && n % 2 == 0
+
 -- the bytes of a line: 1 to 512 digits, two for each byte
 abbrev pub line_bytes : List ℕ → Option (List ℕ)
 line_bytes line = cond (nat_le 1 (length line) && nat_le (length line) 512) (bytes_in line) None
@@ -83,9 +82,6 @@ field bytes i j = big_endian (between i j bytes)
 abbrev pub module_at : List ℕ → ℕ → ModuleIdx
 module_at bytes i = record { 0 = field bytes i (i + 2) }
 
-abbrev pub bit : ℕ → ℕ → Bool
-bit k n = n / 2 ^ k % 2 == 1
-
 abbrev pub order_by : Bool → ChunkModulesOrderBy
 order_by true = ModuleId
 order_by false = ExecOrder
@@ -97,25 +93,12 @@ options_text bytes =
     (Ok (options (record { code_splitting = bit 0 (field bytes 1 2); chunk_modules_order = order_by (bit 1 (field bytes 1 2)); runtime_module = module_at bytes 2 })))
     (Err FieldValue)
 
-abbrev pub wrap_of : ℕ → Option WrapKind
-wrap_of n = cond (n == 0) (Some wraps.None) (cond (n == 1) (Some wraps.Cjs) (cond (n == 2) (Some wraps.Esm) None))
-
--- bits 0 to 3: external, included, JSON, order-sensitive; bits 4 and 5: the wrap kind; the others 0
-abbrev pub flags_of : ℕ → Option ModuleFlags
-flags_of n = elim (wrap_of (n / 16)) [
-  | Some wrap ↦ Some (record { external = bit 0 n; included = bit 1 n; json = bit 2 n; order_sensitive = bit 3 n; wrap_kind = wrap })
-  | None ↦ None
-]
-
 -- M: the id is all that follows, handed out as digits with their place in the line
 abbrev pub module_text : List ℕ → List ℕ → Result Said Refusal
 module_text line bytes = elim (flags_of (field bytes 1 3)) [
   | Some flags ↦ Ok (a_module flags (field bytes 3 7) (drop 14 line) 14)
   | None ↦ Err FieldValue
 ]
-
-abbrev pub import_kind : ℕ → Option ImportKind
-import_kind n = cond (n == 0) (Some Other) (cond (n == 1) (Some Import) None)
 
 -- 65535 stands for no module
 abbrev pub resolved : List ℕ → ℕ → Option ModuleIdx
@@ -126,9 +109,6 @@ record_text bytes = elim (import_kind (field bytes 1 2)) [
   | Some kind ↦ Ok (import_record (record { kind = kind; resolved_module = resolved bytes 2 }))
   | None ↦ Err FieldValue
 ]
-
-abbrev pub entry_kind : ℕ → Option EntryPointKind
-entry_kind n = cond (n == 0) (Some UserDefined) (cond (n == 1) (Some EmittedUserDefined) (cond (n == 2) (Some DynamicImport) None))
 
 abbrev pub entry_text : List ℕ → Result Said Refusal
 entry_text bytes = elim (entry_kind (field bytes 3 4)) [

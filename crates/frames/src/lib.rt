@@ -3,5 +3,7 @@
 
 mod fields;
 pub mod frame;
+mod line;
+mod open;
 pub mod read;
 pub mod stage;

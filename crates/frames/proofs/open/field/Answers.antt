@@ -1,7 +1,7 @@
 use Rattle.std.proofs.Common.{◌≡◌, is_some, sym, ap, ◌∙◌, arith}
 use Rattle.frames.specs.Text.{field, bytes_of}
 use Rattle.frames.proofs.Decoded.{line_length, field_number, field_small}
-use Rattle.frames.proofs.fields.field.Goals as goal
+use Rattle.frames.proofs.open.field.Goals as goal
 
 pub overflow_mul-from : goal.overflow_mul-from
 overflow_mul-from c = omega (arith, line_length c.args.line.now c.requires.bytes)
