@@ -5,10 +5,11 @@ use Rattle.std.proofs.lemmas.Bool.{le-leb, cond-true}
 use Rattle.digits.specs.Digits.{digits}
 use Rattle.digits.specs.Lay.{laid}
 use Rattle.digits.proofs.Hex.{length_digits}
-use Rattle.digits.proofs.Laying.{laid_more, laid_first}
+use Rattle.digits.proofs.Laying.{laid_more, laid_first, laid_nothing}
 use Rattle.tables.specs.declared.index.ModuleIdx.{ModuleIdx}
 use Rattle.lines.specs.Lines.{modules_text, edit_line, chunk_line, Written}
 use Rattle.lines.specs.declared.ChunkLine.{ChunkLine}
+use Rattle.lines.specs.declared.pen.Pen.{Pen}
 
 -- the buffer after a further part
 pub put_more : (out before after : List ℕ) (start n : ℕ) (first second : List ℕ) → start ≤ length out → n ≡ start + length first → before ≡ laid out start first → after ≡ laid before n second → after ≡ laid out start (first ++ second)
@@ -32,6 +33,30 @@ written_all text before after n room is e =
 pub put_value : (out before after : List ℕ) (start n : ℕ) (first : List ℕ) (k v w : ℕ) → start ≤ length out → n ≡ start + length first → before ≡ laid out start first → v ≡ w → after ≡ laid before n (digits k v) → after ≡ laid out start (first ++ digits k w)
 put_value out before after start n first k v w room at b e a =
     put_more out before after start n first (digits k w) room at b (a ∙ ap (λ u. laid before n (digits k u)) e)
+
+-- a pen that wrote a text from the beginning on
+pub record Wrote (before text : List ℕ) (p : Pen) : Type 0 where
+  pub out : p.out.now ≡ laid before 0 text
+  pub at : p.at ≡ length text
+
+pub wrote_nothing : (before : List ℕ) (p : Pen) → p.out.now ≡ before → p.at ≡ 0 → Wrote before [] p
+wrote_nothing before p o a = record { out = o ∙ laid_nothing before 0; at = a }
+
+pub wrote_more : (before text more : List ℕ) (n : ℕ) (p q : Pen) → Wrote before text p → q.out.now ≡ laid p.out.now p.at more → q.at ≡ p.at + n → n ≡ length more → Wrote before (text ++ more) q
+wrote_more before text more n p q w o a l =
+    record {
+      out = put_more before p.out.now q.out.now 0 p.at text more (omega arith) (omega (arith, w.at)) w.out o;
+      at = omega (arith, a, w.at, l, length-append text more);
+    }
+
+pub wrote_number : (before text : List ℕ) (k v w : ℕ) (p q : Pen) → Wrote before text p → v ≡ w → q.out.now ≡ laid p.out.now p.at (digits k v) → q.at ≡ p.at + k → Wrote before (text ++ digits k w) q
+wrote_number before text k v w p q b e o a = wrote_more before text (digits k w) k p q b (o ∙ ap (λ u. laid p.out.now p.at (digits k u)) e) a (sym (length_digits k w))
+
+pub wrote_modules : (before text : List ℕ) (ms : List ModuleIdx) (p q : Pen) → Wrote before text p → q.out.now ≡ laid p.out.now p.at (digits 4 (length ms) ++ modules_text ms) → q.at ≡ p.at + (4 + 4 * length ms) → Wrote before (text ++ (digits 4 (length ms) ++ modules_text ms)) q
+wrote_modules before text ms p q b o a = wrote_more before text (digits 4 (length ms) ++ modules_text ms) (4 + 4 * length ms) p q b o a (omega (arith, length-append (digits 4 (length ms)) (modules_text ms), length_digits 4 (length ms), length_modules ms))
+
+pub written : (before text : List ℕ) (p : Pen) → Wrote before text p → length text ≤ length before → Written text before (Some p.at) p.out.now
+written before text p w room = written_all text before p.out.now p.at room w.at w.out
 
 pub length_edit : (ms : List ModuleIdx) → length (edit_line ms) ≡ 6 + 4 * length ms
 length_edit ms = omega (arith, length_modules ms)

@@ -1,9 +1,8 @@
-use Rattle.std.proofs.Common.{◌≡◌, ◌++◌, length, sym, refl, ap, ◌∙◌, arith}
+use Rattle.std.proofs.Common.{[], sym, arith, rules}
 use Rattle.std.proofs.lemmas.Bool.{leb-true}
 use Rattle.digits.specs.Digits.{digits}
-use Rattle.digits.specs.Lay.{laid}
-use Rattle.lines.specs.Lines.{modules_text, edit_line}
-use Rattle.lines.proofs.Writing.{put_more, written_all, length_edit}
+use Rattle.lines.specs.Lines.{edit_line}
+use Rattle.lines.proofs.Writing.{wrote_nothing, wrote_number, wrote_modules, written, length_edit}
 use Rattle.lines.proofs.write_edit.Goals as goal
 
 pub returns : goal.returns
@@ -11,7 +10,9 @@ returns c =
     let room = leb-true _ _ (sym c.if-not-has_room.ensures.room) in
     let out = c.args.out.now in
     let ms = c.args.moved.now in
-    let long = length_edit c.args.moved.now in
-    let p1 : c.put.new.out ≡ laid out 0 (digits 2 78) = c.put.ensures ∙ ap (λ v. laid out 0 (digits 2 v)) c.from.ensures in
-    let p2 = put_more out c.put.new.out c.put_modules.new.out 0 2 (digits 2 78) (digits 4 (length ms) ++ modules_text ms) (omega arith) refl p1 c.put_modules.ensures in
-    written_all (edit_line c.args.moved.now) out c.put_modules.new.out _ (omega arith) (omega arith) p2
+    let long = length_edit ms in
+    let none = wrote_nothing out c.new-pen.result c.new-pen.ensures.out c.new-pen.ensures.at in
+    let w1 = wrote_number out [] 2 c.from.result 78 c.new-pen.result c.put.new.self none c.from.ensures c.put.ensures.out c.put.ensures.at in
+    let w2 = wrote_modules out (digits 2 78) ms c.put.new.self c.put_modules.new.self w1 c.put_modules.ensures.out c.put_modules.ensures.at in
+    let all = written out (edit_line ms) c.put_modules.new.self w2 (omega arith) in
+    search rules
