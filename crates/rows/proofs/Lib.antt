@@ -1,2 +1,2 @@
-pub mod Listing
-pub mod Past
+pub mod Ascending
+pub mod Shifted

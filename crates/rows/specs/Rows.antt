@@ -1,62 +1,39 @@
--- The pairs that rows of ascending numbers stand for.
-use Rattle.std.specs.Prelude.{◌≡◌, ℕ, zero, suc, ◌+◌, ◌-◌, ◌*◌, ◌/◌, ◌<◌, ◌≤◌, min, Bool, false, cond, ◌&&◌, ◌||◌, ◌⊎◌, List, length, ◌≢◌, nat_eq, nat_le, nat_lt, slice_index}
-use Rattle.stores.specs.Pairs.{Pairs}
+-- The numbers that a row lists.
+use Rattle.std.specs.Prelude.{◌≡◌, ℕ, zero, suc, ◌+◌, ◌<◌, ◌≤◌, Bool, true, false, ◌&&◌, ◌||◌, ◌==◌, List, replicate, nat_lt, slice_index, refl}
+use Rattle.std.specs.List.{list_any}
+use Rattle.std.proofs.Common.{◌≢◌, arith}
+use Rattle.std.proofs.lemmas.Bool.{ne_eqb}
 
--- the size of rows for n modules in these numbers
-abbrev pub rows_of : ℕ → List ℕ → ℕ
-rows_of n xs = min (min n 512) (length xs / 65)
+-- whether the test holds of each number below k
+abbrev pub every : ℕ → (ℕ → Bool) → Bool
+every zero t = true
+every (suc k) t = t k && every k t
 
--- the numbers of the row of m
-abbrev pub in_row : List ℕ → ℕ → ℕ → ℕ
-in_row xs m i = slice_index xs (65 * m + i)
+-- the second number may stand behind the first: it is above it, or both are END
+abbrev pub follows : ℕ → ℕ → Bool
+follows x y = nat_lt x y || (x == 65535 && y == 65535)
 
--- the first place from i on, of f places, whose number is not below n or does not ascend from low
-unfoldable pub stop : ℕ → (ℕ → ℕ) → ℕ → ℕ → ℕ → ℕ
-stop n x i zero low = i
-stop n x i (suc f) low = cond (nat_le low (x i) && nat_lt (x i) n) (stop n x (suc i) f (suc (x i))) i
+-- each of the 65 numbers follows the one before it
+unfoldable pub ascending : List ℕ → Bool
+ascending xs = every 64 (λ i. follows (slice_index xs i) (slice_index xs (i + 1)))
 
--- whether the test holds of some number below k
-abbrev pub some : ℕ → (ℕ → Bool) → Bool
-some zero t = false
-some (suc k) t = t k || some k t
+-- d is one of the numbers
+abbrev pub listed : List ℕ → ℕ → Bool
+listed xs d = list_any (λ x. x == d) xs
 
--- how many modules the row lists
-abbrev pub row_length : ℕ → List ℕ → ℕ → ℕ
-row_length n xs m = stop n (in_row xs m) 0 64 0
+-- the first p of the 65 numbers are below d, and the others are not
+pub record Parts (xs : List ℕ) (d p : ℕ) : Type 0 where
+  pub few : p ≤ 65
+  pub low : (i : ℕ) → i < p → slice_index xs i < d
+  pub high : (i : ℕ) → p ≤ i → i < 65 → d ≤ slice_index xs i
 
--- whether d is among the first k numbers
-unfoldable pub among : ℕ → (ℕ → ℕ) → ℕ → Bool
-among k x d = some k (λ i. nat_eq (x i) d)
+pub blank_ascends : ascending (replicate 65 65535) ≡ true
+unfolding ascending
+blank_ascends = refl
 
-unfoldable pub listed_in : ℕ → List ℕ → Pairs
-listed_in n xs m d = nat_lt m n && among (row_length n xs m) (in_row xs m) d
+none_listed : (n x d : ℕ) → (x == d) ≡ false → listed (replicate n x) d ≡ false
+none_listed zero x d e = refl
+none_listed (suc n) x d e = let i : listed (replicate n x) d ≡ false = none_listed n x d e in rw (e, i) refl
 
-abbrev pub row_pairs : ℕ → List ℕ → Pairs
-row_pairs n xs = listed_in (rows_of n xs) xs
-
--- the first k numbers ascend
-abbrev pub Rises : ℕ → (ℕ → ℕ) → Type 0
-Rises k x = (j : ℕ) → j + 1 < k → x j < x (j + 1)
-
--- r is the place of d among the first k numbers, or 64 where it has none
-pub record PlaceOf (k : ℕ) (x : ℕ → ℕ) (d r : ℕ) : Type 0 where
-  pub there : r < 64 → (r < k) × (x r ≡ d)
-  pub absent : 64 ≤ r → (i : ℕ) → i < k → x i ≢ d
-
--- d was put in at place p of the k numbers of row m, and a number that no module has behind them
-pub record Inserted (old new : List ℕ) (m k d p : ℕ) : Type 0 where
-  pub long : length new ≡ length old
-  pub before : p ≤ k
-  pub low : (i : ℕ) → i < p → (in_row new m i ≡ in_row old m i) × (in_row old m i < d)
-  pub here : in_row new m p ≡ d
-  pub above : (i : ℕ) → p ≤ i → i < k → (in_row new m (i + 1) ≡ in_row old m i) × (d < in_row old m i)
-  pub closed : in_row new m (k + 1) ≡ 65535
-  pub others : (j : ℕ) → (j < 65 * m) ⊎ (65 * m + 65 ≤ j) → slice_index new j ≡ slice_index old j
-
--- the number at place p of the k numbers of row m was taken out
-pub record Removed (old new : List ℕ) (m k p : ℕ) : Type 0 where
-  pub long : length new ≡ length old
-  pub low : (i : ℕ) → i < p → in_row new m i ≡ in_row old m i
-  pub above : (i : ℕ) → p ≤ i → i + 1 < k → in_row new m i ≡ in_row old m (i + 1)
-  pub closed : in_row new m (k - 1) ≡ 65535
-  pub others : (j : ℕ) → (j < 65 * m) ⊎ (65 * m + 65 ≤ j) → slice_index new j ≡ slice_index old j
+pub blank_lists : (d : ℕ) → d < 512 → listed (replicate 65 65535) d ≡ false
+blank_lists d h = let e : 65535 ≢ d = omega arith in none_listed 65 65535 d (ne_eqb 65535 d e)

@@ -1,24 +1,22 @@
--- The pairs that a square of bits stands for.
-use Rattle.std.specs.Prelude.{◌≡◌, ℕ, ◌+◌, ◌*◌, ◌/◌, ◌%◌, ◌<◌, min, true, ◌&&◌, List, length, nat_lt, slice_index}
-use Rattle.std.proofs.lemmas.Bool.{and_parts, ltb-true}
+-- The numbers that a row of bits lists.
+use Rattle.std.specs.Prelude.{◌≡◌, ℕ, zero, suc, ◌/◌, ◌%◌, Bool, false, List, replicate, slice_index, refl}
+use Rattle.std.proofs.Common.{eqb, ap, ◌∙◌, pow_pos}
+use native.Mathlib.Nat.{div-eq_of_lt}
 use Rattle.sets.specs.Bits.{bit}
-use Rattle.stores.specs.Pairs.{Pairs}
 
--- the word of the pair (m, d)
-abbrev pub place : ℕ → ℕ → ℕ
-place m d = 8 * m + d / 64
+-- bit d % 64 of word d / 64
+unfoldable pub bits_in : List ℕ → ℕ → Bool
+bits_in words d = bit (slice_index words (d / 64)) (d % 64)
 
--- the size of a square of n modules in these words: 512 at most, and no more than they have room for
-abbrev pub side_of : ℕ → List ℕ → ℕ
-side_of n words = min (min n 512) (length words / 8)
+pub zero_bit : (k : ℕ) → bit 0 k ≡ false
+unfolding bit
+zero_bit k = ap (λ (x : ℕ). eqb (x % 2) 1) (div-eq_of_lt (pow_pos k))
 
--- the pairs below n that the words hold
-unfoldable pub pairs_in : ℕ → List ℕ → Pairs
-pairs_in n words m d = nat_lt m n && (nat_lt d n && bit (slice_index words (place m d)) (d % 64))
+no_word : (n i : ℕ) → ◌≡◌ {A = ℕ} (slice_index (replicate n 0) i) 0
+no_word zero i = refl
+no_word (suc n) zero = refl
+no_word (suc n) (suc i) = no_word n i
 
-abbrev pub square_pairs : ℕ → List ℕ → Pairs
-square_pairs n words = pairs_in (side_of n words) words
-
-pub within_side : (n : ℕ) (words : List ℕ) (a b : ℕ) → pairs_in n words a b ≡ true → (a < n) × (b < n)
-unfolding pairs_in
-within_side n words a b h = let p = and_parts _ _ h in (ltb-true a n p.0, ltb-true b n (and_parts _ _ p.1).0)
+pub no_bits : (d : ℕ) → bits_in (replicate 8 0) d ≡ false
+unfolding bits_in
+no_bits d = ap (λ (w : ℕ). bit w (d % 64)) (no_word 8 (d / 64)) ∙ zero_bit (d % 64)

@@ -1,11 +1,9 @@
 -- The answers' tests against what they ask.
-use Rattle.std.proofs.Common.{◌≡◌, ℕ, ◌<◌, ◌≤◌, Bool, true, false, cond, ◌&&◌, ltb, ◌⊎◌, Ok, Err, refl, inl, inr, ⊎_elim}
+use Rattle.std.proofs.Common.{◌≡◌, ℕ, ◌<◌, ◌≤◌, Bool, true, false, cond, ◌&&◌, ltb, ◌⊎◌, Ok, Err, refl, sym, subst, inl, inr, ⊎_elim}
 use Rattle.std.proofs.lemmas.Bool.{and_parts, and_cases, ltb-true, ltb-false}
 use Rattle.tables.specs.declared.refusal.Refusal.TheVariants.{ModuleOutOfRange, PairPresent, DependencyLimit, PairAbsent}
-use Rattle.stores.specs.Judged.{LinkJudged, link_beyond, present, full, linked, UnlinkJudged, unlink_beyond, absent, unlinked, Judged}
-use Rattle.stores.specs.Edits.{answer_to}
-use Rattle.stores.specs.declared.edit.Edit.{Edit}
-use Rattle.stores.specs.declared.edit.Edit.TheVariants.{Link, Unlink}
+use Rattle.stores.specs.Judged.{LinkJudged, link_beyond, present, full, linked, UnlinkJudged, unlink_beyond, absent, unlinked}
+use Rattle.stores.specs.Answers.{Outcome, link_answer, unlink_answer}
 use Rattle.stores.specs.Pairs.{Pairs, degree}
 
 module _ (n : ℕ) (loads : Pairs) (m d : ℕ) where
@@ -26,6 +24,8 @@ module _ (n : ℕ) (loads : Pairs) (m d : ℕ) where
   unlink_by true true ea eb = let p = below ea in unlinked p.0 p.1 eb
   unlink_by true false ea eb = let p = below ea in absent p.0 p.1 eb
 
-pub judge : (n : ℕ) (loads : Pairs) (e : Edit) → Judged n loads e (answer_to n loads e)
-judge n loads (Link m d) = link_by n loads m.0 d.0 _ _ _ refl refl refl
-judge n loads (Unlink m d) = unlink_by n loads m.0 d.0 _ _ refl refl
+  pub link_judged : (r : Outcome) → r ≡ link_answer n loads m d → LinkJudged n loads m d r
+  link_judged r e = subst (LinkJudged n loads m d) (sym e) (link_by _ _ _ refl refl refl)
+
+  pub unlink_judged : (r : Outcome) → r ≡ unlink_answer n loads m d → UnlinkJudged n loads m d r
+  unlink_judged r e = subst (UnlinkJudged n loads m d) (sym e) (unlink_by _ _ refl refl)

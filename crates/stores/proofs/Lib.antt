@@ -1,2 +1,4 @@
 pub mod Replays
 pub mod Judging
+pub mod Written
+pub mod Below

@@ -1,5 +1,5 @@
 -- How the making of a store is answered, and what it leaves of the caller's memory.
-use Rattle.std.specs.Prelude.{◌≡◌, ℕ, ◌*◌, ◌<◌, ◌≤◌, cond, ◌&&◌, List, length, Some, None, Ok, Err, Option, Result, nat_le, slice_index}
+use Rattle.std.specs.Prelude.{◌≡◌, ℕ, ◌*◌, cond, ◌&&◌, List, ◌++◌, drop, replicate, Some, None, Ok, Err, Option, Result, nat_le}
 use Rattle.tables.specs.declared.refusal.Refusal.{Refusal}
 use Rattle.tables.specs.declared.refusal.Refusal.TheVariants.{Limit, BufferRoom}
 
@@ -12,7 +12,5 @@ refusal_of why (Ok x) = None
 refusal_of why (Err y) = Some (why y)
 
 -- the first n places hold v, and the later ones are as they were
-pub record LaidOut (v n : ℕ) (old new : List ℕ) : Type 0 where
-  pub long : length new ≡ length old
-  pub clear : (i : ℕ) → i < n → slice_index new i ≡ v
-  pub past : (i : ℕ) → n ≤ i → slice_index new i ≡ slice_index old i
+abbrev pub LaidOut : {X : Type 0} → X → ℕ → List X → List X → Type 0
+LaidOut v n old new = new ≡ replicate n v ++ drop n old

@@ -2,4 +2,5 @@ pub mod Pairs
 pub mod Answers
 pub mod Edits
 pub mod Judged
+pub mod Cells
 pub mod Created

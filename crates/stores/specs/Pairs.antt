@@ -1,5 +1,5 @@
 -- Sets of pairs of module numbers, and what one edit makes of them.
-use Rattle.std.specs.Prelude.{◌≡◌, ℕ, zero, suc, ◌+◌, ◌<◌, ◌≤◌, Bool, true, false, cond, ◌&&◌, ◌==◌}
+use Rattle.std.specs.Prelude.{◌≡◌, ℕ, zero, suc, ◌+◌, ◌<◌, ◌≤◌, Bool, true, false, cond, ◌&&◌, ◌==◌, nat_lt}
 
 abbrev pub Pairs : Type 0
 Pairs = ℕ → ℕ → Bool
@@ -11,6 +11,14 @@ no_pairs a b = false
 abbrev pub degree : (ℕ → Bool) → ℕ → ℕ
 degree row zero = 0
 degree row (suc n) = cond (row n) 1 0 + degree row n
+
+-- the numbers of the row that are below n
+abbrev pub below : ℕ → (ℕ → Bool) → ℕ → Bool
+below n row b = nat_lt b n && row b
+
+-- the one number d has the value v
+abbrev pub with_number : Bool → (ℕ → Bool) → ℕ → ℕ → Bool
+with_number v row d b = cond (b == d) v (row b)
 
 -- the one pair (m, d) has the value v, where the edit was accepted
 abbrev pub changed : Bool → Bool → Pairs → ℕ → ℕ → Pairs

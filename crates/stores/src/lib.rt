@@ -1,6 +1,8 @@
-// What a dependency store means, for every store, and lists of edits put onto one. It uses tables.
+// What a dependency store means, for every store, lists of edits put onto one, and the store in lent memory over any layout of rows. It uses tables.
 #![tactic(auto)]
 
 pub mod edit;
+pub mod layout;
+pub mod lent;
 pub mod replay;
 pub mod store;

@@ -8,28 +8,10 @@ use std::alloc::{AllocError, Global};
 use tables::refusal::Refusal;
 
 // Puts one edit onto a store: what it is answered, what that answer means, and what it leaves.
+#[tactic(auto, using(crate::proofs::Judging::link_judged, crate::proofs::Judging::unlink_judged))]
 pub fn apply<S: DependencyStore>(store: &mut S, edit: Edit) -> Result<(), Refusal>
     ensures answer { result ≡ answer_to (S.DependencyStore.modules store.old) (S.DependencyStore.loads store.old) edit }
     ensures judged { Judged (S.DependencyStore.modules store.old) (S.DependencyStore.loads store.old) edit result }
-    ensures size { S.DependencyStore.modules store.new ≡ S.DependencyStore.modules store.old }
-    ensures kept { S.DependencyStore.outside store.new ≡ S.DependencyStore.outside store.old }
-    ensures pairs { S.DependencyStore.loads store.new ≡ pairs_with (S.DependencyStore.modules store.old) (S.DependencyStore.loads store.old) edit }
-{
-    put_judged(store, edit)
-}
-
-fn put_judged<S: DependencyStore>(store: &mut S, edit: Edit) -> Result<(), Refusal>
-    ensures answer { result ≡ answer_to (S.DependencyStore.modules store.old) (S.DependencyStore.loads store.old) edit }
-    ensures judged { Judged (S.DependencyStore.modules store.old) (S.DependencyStore.loads store.old) edit result }
-    ensures size { S.DependencyStore.modules store.new ≡ S.DependencyStore.modules store.old }
-    ensures kept { S.DependencyStore.outside store.new ≡ S.DependencyStore.outside store.old }
-    ensures pairs { S.DependencyStore.loads store.new ≡ pairs_with (S.DependencyStore.modules store.old) (S.DependencyStore.loads store.old) edit }
-{
-    put(store, edit)
-}
-
-fn put<S: DependencyStore>(store: &mut S, edit: Edit) -> Result<(), Refusal>
-    ensures answer { result ≡ answer_to (S.DependencyStore.modules store.old) (S.DependencyStore.loads store.old) edit }
     ensures size { S.DependencyStore.modules store.new ≡ S.DependencyStore.modules store.old }
     ensures kept { S.DependencyStore.outside store.new ≡ S.DependencyStore.outside store.old }
     ensures pairs { S.DependencyStore.loads store.new ≡ pairs_with (S.DependencyStore.modules store.old) (S.DependencyStore.loads store.old) edit }

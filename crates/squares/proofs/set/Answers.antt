@@ -1,0 +1,7 @@
+use Rattle.std.proofs.Common.{◌%◌, true, arith}
+use Rattle.sets.proofs.Bits.{bit_set}
+use Rattle.squares.proofs.Bits.{bits_written}
+use Rattle.squares.proofs.set.Goals as goal
+
+pub returns : goal.returns
+returns c = bits_written c.args.row.now c.args.d _ true c.requires (λ j _. bit_set _ (c.args.d % 64) (omega arith) j)
