@@ -1,16 +1,16 @@
 -- What a walker has taken, and what a walk with it answers.
-use Rattle.std.specs.Prelude.{◌≡◌, ℕ, ◌<◌, List, length, take, Some, None, vec_items, Option}
+use Rattle.std.specs.Prelude.{◌≡◌, ℕ, ◌<◌, List, length, Some, None, vec_items, vec_len, Option}
 use Rattle.std.specs.List.{AllByRecursion}
 use Rattle.walks.specs.declared.walker.Walker.{Walker}
 use Rattle.walks.specs.Walks.{Tour}
 
 -- The number of nodes that a walker is for.
 abbrev pub size_of : Walker → ℕ
-size_of w = w.nodes
+size_of w = vec_len w.marks
 
 -- What the last walk took, in the order of taking.
 abbrev pub taken_by : Walker → List ℕ
-taken_by w = take w.taken (vec_items w.order)
+taken_by w = vec_items w.order
 
 -- The roots are all below n, and the walker's size is n.
 pub record Fit (n : ℕ) (roots : List ℕ) (size : ℕ) : Type 0 where

@@ -1,10 +1,9 @@
-use Rattle.std.specs.Prelude.{◌≡◌, ℕ, ◌+◌, ◌<◌, Bool, true, false, ◌||◌, List, [], ◌∷◌, ◌++◌, length, Some, None, Option, ◌==◌, slice_index_or, slice_set}
-use Rattle.std.specs.List.{AllByRecursion}
+use Rattle.std.specs.Prelude.{◌≡◌, ℕ, ◌<◌, Bool, true, false, List, [], ◌∷◌, ◌++◌, length, Some, None, Option, ◌==◌, slice_index_or}
+use Rattle.std.specs.List.{list_any, count_by}
 
 -- whether a list of numbers holds a number
 abbrev pub has : List ℕ → ℕ → Bool
-has [] y = false
-has (x ∷ xs) y = x == y || has xs y
+has xs y = list_any (λ x. x == y) xs
 
 -- What `next` answers, of the targets still to come from a cursor: nothing where none is left, else the first of them, which is a node, and a cursor from which the others come.
 abbrev pub Hands : (ℕ → List ℕ) → ℕ → ℕ → Option (ℕ × ℕ) → Type 0
@@ -22,23 +21,11 @@ pub data Path (arcs : ℕ → List ℕ) : ℕ → ℕ → Type 0 where
   here : {x : ℕ} → Path arcs x x
   step : {x y z : ℕ} → has (arcs x) y ≡ true → Path arcs y z → Path arcs x z
 
--- The sum of w over the places, counted from i, that are not marked.
-abbrev pub owing : (ℕ → ℕ) → ℕ → List Bool → ℕ
-owing w i [] = 0
-owing w i (true ∷ ms) = owing w (i + 1) ms
-owing w i (false ∷ ms) = w i + owing w (i + 1) ms
-
--- The marks tell which of the n nodes are in t, and `taken` counts them.
-pub record Marked (n : ℕ) (t : List ℕ) (taken : ℕ) (marks : List Bool) : Type 0 where
+-- The marks of the n nodes tell which are in t, and as many are marked as t has.
+pub record Marked (n : ℕ) (t : List ℕ) (marks : List Bool) : Type 0 where
   pub long : length marks ≡ n
-  pub tell : (k : ℕ) → k < n → slice_index_or marks k false ≡ has t k
-  pub count : taken + owing (λ _. 1) 0 marks ≡ n
-  pub inside : AllByRecursion (λ x. x < n) t
-
--- What is left after a try to take the node y, the c-th to be taken, with d frames on the stack. Where y was not marked, it is marked then, and stands in the order and, with the cursor 0, on the stack. Else nothing is changed.
-abbrev pub Entered : (y c d : ℕ) (marks marks' : List Bool) (order order' : List ℕ) (stack stack' : List (ℕ × ℕ)) → Bool → Type 0
-Entered y c d marks marks' order order' stack stack' true = (slice_index_or marks y false ≡ false) × (marks' ≡ slice_set marks y true) × (order' ≡ slice_set order c y) × (stack' ≡ slice_set stack d (y, 0))
-Entered y c d marks marks' order order' stack stack' false = (slice_index_or marks y false ≡ true) × (marks' ≡ marks) × (order' ≡ order) × (stack' ≡ stack)
+  pub tell : (k : ℕ) → slice_index_or marks k false ≡ has t k
+  pub count : count_by (λ b. b) marks ≡ length t
 
 -- A path leads to y from one of the roots.
 abbrev pub Reached : (ℕ → List ℕ) → List ℕ → ℕ → Type 0

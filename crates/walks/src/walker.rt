@@ -1,17 +1,15 @@
-ghost use Rattle.std.specs.Prelude.{◌≡◌, ℕ, ◌≤◌, false, take, vec_len, slice_index_or};
-ghost use Rattle.walks.specs.Walks.{has};
+ghost use Rattle.std.specs.Prelude.{◌≤◌, vec_len, vec_capacity};
+ghost use Rattle.walks.specs.Walks.{Marked};
 
-// What the last walk over a number of nodes took, and memory for the next walk.
+// What the last walk over a number of nodes took, a mark for each node that tells whether it did, and the nodes of the walk's path, each with a cursor.
+// There is room for every node: no walk needs more memory.
 #[derive(Drop)]
 pub struct Walker {
-    pub(crate) nodes: usize,
-    pub(crate) taken: usize,
     pub(crate) order: Vec<usize>,
     pub(crate) marks: Vec<bool>,
     pub(crate) stack: Vec<(usize, usize)>,
-    ghost order_long: { vec_len order ≡ nodes },
-    ghost marks_long: { vec_len marks ≡ nodes },
-    ghost stack_long: { vec_len stack ≡ nodes },
-    ghost taken_few: { taken ≤ nodes },
-    ghost told: { (k : ℕ) → slice_index_or marks.items k false ≡ has (take taken order.items) k },
+    ghost marked: { Marked (vec_len marks) order.items marks.items },
+    ghost order_room: { vec_len marks ≤ vec_capacity order },
+    ghost stack_room: { vec_len marks ≤ vec_capacity stack },
+    ghost stack_taken: { vec_len stack ≤ vec_len order },
 }
