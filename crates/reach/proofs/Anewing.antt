@@ -8,13 +8,6 @@ use Rattle.tables.specs.View.{entry_of}
 use Rattle.tables.specs.declared.module.EntryPoint.{EntryPoint}
 use Rattle.reach.specs.Exact.{Told, Anew}
 
-pub anew_none : (p : Panel) (g : Graph) (concern : ℕ → Bool) (old : ℕ → ℕ → Bool) → Anew 0 p g concern old old
-anew_none p g concern old = record {
-  only = λ e y l. let z : ⊥ = omega arith in absurd z;
-  all = λ e y l. let z : ⊥ = omega arith in absurd z;
-  others = λ e y h. refl;
-}
-
 module _ (p : Panel) (g : Graph) (concern : ℕ → Bool) (k : ℕ) (old mid : ℕ → ℕ → Bool) (before : Anew k p g concern old mid) where
   -- an entry that is not concerned
   pub anew_passed : concern k ≡ false → Anew (k + 1) p g concern old mid
@@ -61,7 +54,7 @@ module _ (p : Panel) (g : Graph) (concern : ℕ → Bool) (k : ℕ) (old mid : �
     }
 
 -- the module of an entry, as the table has it
-pub start_at : (entries : List EntryPoint) (e : ℕ) (x : EntryPoint) → e < length entries → x ≡ get_or entries e x → get_or (map (λ (z : PanelEntry). z.start) (map entry_of entries)) e 0 ≡ x.«module».0
-start_at entries e x l h =
-    get_or-map (λ (z : PanelEntry). z.start) (map entry_of entries) e (entry_of x) 0 (omega (arith, length-map entries entry_of))
-    ∙ ap (λ (z : PanelEntry). z.start) (get_or-map entry_of entries e x (entry_of x) l ∙ ap entry_of (sym h))
+pub start_at : (entries : List EntryPoint) (e : ℕ) (d : EntryPoint) {es : List EntryPoint} → e < length entries → es ≡ entries → get_or (map (λ (z : PanelEntry). z.start) (map entry_of entries)) e 0 ≡ (get_or es e d).«module».0
+start_at entries e d l same =
+    get_or-map (λ (z : PanelEntry). z.start) (map entry_of entries) e (entry_of d) 0 (omega (arith, length-map entries entry_of))
+    ∙ ap (λ (z : PanelEntry). z.start) (get_or-map entry_of entries e d (entry_of d) l ∙ ap (λ (es : List EntryPoint). entry_of (get_or es e d)) (sym same))

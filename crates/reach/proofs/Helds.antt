@@ -1,11 +1,13 @@
--- What sets hold past the last module, and where all are empty.
-use Rattle.std.proofs.Common.{◌≡◌, ℕ, ◌+◌, ◌<◌, ◌≤◌, Bool, true, false, cond, ◌&&◌, eqb, ltb, List, length, replicate, sym, refl, ap, ◌∙◌, ⊎_elim, arith}
+-- What sets hold past the last module and where all are empty, and when two differ.
+use Rattle.std.proofs.Common.{◌≡◌, ℕ, ◌<◌, ◌≤◌, Bool, false, not, List, length, replicate, sym, ap, ◌∙◌, ⊎_elim, Decides, arith}
 use Rattle.std.proofs.lemmas.List.{get_or_past, get_or-replicate, length-replicate}
-use Rattle.std.proofs.lemmas.Bool.{cases_lt, cases_eq, eq-eqb, ne_eqb, lt-ltb, le-ltb}
+use Rattle.std.proofs.lemmas.Bool.{both_ways, cases_Bool, cases_lt}
 use Rattle.sets.proofs.Bits.{bit_zero}
-use Rattle.sets.specs.Sets.{member, no_set, Empty}
+use Rattle.sets.specs.Sets.{member, no_set, Empty, Same}
 use Rattle.sets.specs.declared.EntrySet.{EntrySet}
 use Rattle.reach.specs.Held.{held}
+use Rattle.reach.specs.Moved.{differs}
+use Rattle.reach.proofs.Passes.{same_test, other_test}
 
 pub held_past : (sets : List EntrySet) (y e : ℕ) → length sets ≤ y → held sets y e ≡ false
 held_past sets y e h = ap (λ (s : EntrySet). member s e) (get_or_past sets y no_set h) ∙ bit_zero e
@@ -16,25 +18,9 @@ held_empty n s none y e = ⊎_elim
     (λ (h : n ≤ y). held_past (replicate n s) y e (omega (arith, length-replicate n s)))
     (cases_lt y n)
 
--- one more module of a column
-pub column_more : (z k y e : ℕ) (marks : ℕ → Bool) (on b : Bool) → on ≡ marks y → cond (eqb z y && eqb k e) on (cond (eqb k e && ltb z y) (marks z) b) ≡ cond (eqb k e && ltb z (y + 1)) (marks z) b
-column_more z k y e marks on b h = ⊎_elim
-    (λ (q : z ≡ y).
-    ap (λ (t : Bool). cond (t && eqb k e) on (cond (eqb k e && ltb z y) (marks z) b)) (eq-eqb z y q)
-    ∙ ap (λ (t : Bool). cond (eqb k e) on (cond (eqb k e && t) (marks z) b)) (le-ltb z y (omega arith))
-    ∙ here (eqb k e) (h ∙ ap marks (sym q))
-    ∙ ap (λ (t : Bool). cond (eqb k e && t) (marks z) b) (sym (lt-ltb z (y + 1) (omega arith))))
-    (λ (q : z ≡ y → ⊥).
-    ap (λ (t : Bool). cond (t && eqb k e) on (cond (eqb k e && ltb z y) (marks z) b)) (ne_eqb z y q)
-    ∙ ap (λ (t : Bool). cond (eqb k e && t) (marks z) b) (same_ltb q))
-    (cases_eq z y)
-  where
-    here : {m : Bool} (a : Bool) → on ≡ m → cond a on (cond (a && false) m b) ≡ cond (a && true) m b
-    here true f = f
-    here false f = refl
-
-    same_ltb : (z ≡ y → ⊥) → ltb z y ≡ ltb z (y + 1)
-    same_ltb q = ⊎_elim
-        (λ (l : z < y). lt-ltb z y l ∙ sym (lt-ltb z (y + 1) (omega arith)))
-        (λ (l : y ≤ z). le-ltb z y l ∙ sym (le-ltb z (y + 1) (let n : z ≡ y → ⊥ = q in omega arith)))
-        (cases_lt z y)
+-- whether the sets of a module differ, by a test r of whether they are the same
+pub differs_by : (n : ℕ) (old new : List EntrySet) (y : ℕ) (a b : EntrySet) {r : Bool} → ((e : ℕ) → n ≤ e → held old y e ≡ false) → ((e : ℕ) → n ≤ e → held new y e ≡ false) → ((e : ℕ) → member a e ≡ held old y e) → ((e : ℕ) → member b e ≡ held new y e) → Decides r (Same a b) → differs n (held old) (held new) y ≡ not r
+differs_by n old new y a b {r} wo wn ho hn d = ⊎_elim
+    (λ t. same_test n (held old) (held new) y (λ e. sym (ho e) ∙ d.0 t e ∙ hn e) ∙ ap not (sym t))
+    (λ f. other_test n (held old) (held new) y wo wn (λ same. both_ways r f (d.1 (λ e. ho e ∙ same e ∙ sym (hn e)))) ∙ ap not (sym f))
+    (cases_Bool r)

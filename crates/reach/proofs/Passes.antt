@@ -1,7 +1,10 @@
 -- The numbers of a stretch that pass a test, and when two sets differ.
-use Rattle.std.proofs.Common.{◌≡◌, ℕ, zero, suc, ◌+◌, ◌<◌, ◌≤◌, Bool, true, false, cond, ◌⊎◌, [], ◌∷◌, ◌++◌, sym, refl, ap, ◌∙◌, inl, inr, ⊎_elim, append-nil, add-zero, arith}
+use Rattle.std.proofs.Common.{◌≡◌, ℕ, zero, suc, ◌+◌, ◌<◌, ◌≤◌, Bool, true, false, cond, not, ◌⊎◌, List, map, [], ◌∷◌, ◌++◌, sym, refl, ap, ◌∙◌, inl, inr, ⊎_elim, append-nil, add-zero, arith}
+use Rattle.std.proofs.lemmas.List.{map_push}
 use Rattle.std.proofs.lemmas.Bool.{both_ways, cases_lt, cases_eq, cases_Bool, or_from, or_parts, or_cases}
-use Rattle.exports.specs.Check.{some_below}
+use Rattle.exports.proofs.Below.{some_at, some_since, some_none, none_below}
+use Rattle.tables.specs.View.{number}
+use Rattle.tables.specs.declared.index.ModuleIdx.{ModuleIdx}
 use Rattle.reach.specs.Moved.{passing, unlike, differs}
 
 -- one number more at the end
@@ -28,27 +31,10 @@ push_shut test k e =
     let z : 0 + k ≡ k = omega arith in
     sym (passing_push test 0 k ∙ ap (λ y. passing test 0 k ++ cond (test y) (y ∷ []) []) z ∙ ap (λ b. passing test 0 k ++ cond b (k ∷ []) []) e ∙ append-nil (passing test 0 k))
 
--- tests of the numbers below a bound
-
-pub some_none : (test : ℕ → Bool) (n : ℕ) → ((e : ℕ) → test e ≡ false) → some_below test n ≡ false
-some_none test zero f = refl
-some_none test (suc n) f = or_from (test n) (some_below test n) (f n) (some_none test n f)
-
-pub none_below : (test : ℕ → Bool) (n : ℕ) → some_below test n ≡ false → (e : ℕ) → e < n → test e ≡ false
-none_below test zero h e l = let z : ⊥ = omega arith in absurd z
-none_below test (suc n) h e l =
-    let p = or_parts (test n) (some_below test n) h in
-    ⊎_elim (λ (q : e ≡ n). ap test q ∙ p.0) (λ (q : e ≡ n → ⊥). none_below test n p.1 e (omega arith)) (cases_eq e n)
-
-pub some_at : (test : ℕ → Bool) (n : ℕ) → some_below test n ≡ true → (e : ℕ) × (e < n) × (test e ≡ true)
-some_at test zero h = absurd (both_ways false refl h)
-some_at test (suc n) h = ⊎_elim
-    (λ q. (n, omega arith, q))
-    (λ q. let r = some_at test n q in (r.0, omega (arith, r.1), r.2))
-    (or_cases (test n) (some_below test n) h)
-
-pub some_since : (test : ℕ → Bool) (n e : ℕ) → e < n → test e ≡ true → some_below test n ≡ true
-some_since test n e l h = ⊎_elim (λ q. q) (λ q. absurd (both_ways (test e) (none_below test n q e l) h)) (cases_Bool (some_below test n))
+-- the modules named so far, and one more unless r, which tells that it does not pass
+pub named_more : (test : ℕ → Bool) (y : ℕ) (names : List ModuleIdx) {more : List ModuleIdx} (r : Bool) → map number names ≡ passing test 0 y → test y ≡ not r → more ≡ cond r names (names ++ record { 0 = y } ∷ []) → map number more ≡ passing test 0 (y + 1)
+named_more test y names true h e m = ap (map number) m ∙ h ∙ push_shut test y e
+named_more test y names false h e m = ap (map number) m ∙ map_push number names (record { 0 = y }) ∙ ap (λ (l : List ℕ). l ++ y ∷ []) h ∙ push_pass test y e
 
 -- what it is to be unlike
 

@@ -83,13 +83,12 @@ module _ (p : Panel) (g : Graph) where
     all = λ y w. t.reaches y (x, has_head x [], back w);
   }
 
-  pub from_nowhere : (x : ℕ) (taken : List ℕ) → open_at p g x ≡ false → Tour (λ z. arcs_from p g z 0) [] taken → Told p g x (has taken)
-  from_nowhere x taken o t = record {
-    only = λ y h. let r = t.reached y h in absurd (both_ways false refl r.1);
-    all = λ y w. absurd (both_ways (open_at p g x) o (starts_open w));
-  }
-
 -- a walk that fits is made
-pub walked : (n : ℕ) (arcs : ℕ → List ℕ) (roots : List ℕ) (before after : Walker) (r : Option ℕ) → Walked n arcs roots before after r → Fit n roots (size_of before) → Tour arcs roots (taken_by after)
+walked : (n : ℕ) (arcs : ℕ → List ℕ) (roots : List ℕ) (before after : Walker) (r : Option ℕ) → Walked n arcs roots before after r → Fit n roots (size_of before) → Tour arcs roots (taken_by after)
 walked n arcs roots before after None w f = absurd (w.0 f)
 walked n arcs roots before after (Some k) w f = w.2
+
+module _ (p : Panel) (g : Graph) (x : ℕ) (before after : Walker) (r : Option ℕ) (sized : size_of before ≡ count p) where
+  pub told_open : {root : ℕ} → open_at p g x ≡ true → root ≡ x → Walked (count p) (λ z. arcs_from p g z 0) (root ∷ []) before after r → Told p g x (has (taken_by after))
+  told_open o e w = from_tour p g x (taken_by after) o
+      (walked (count p) (λ z. arcs_from p g z 0) (x ∷ []) before after r (subst (λ y. Walked (count p) (λ z. arcs_from p g z 0) (y ∷ []) before after r) e w) (record { in_range = (open_below p g x o, tt); sized = sized }))

@@ -3,4 +3,3 @@ pub mod Moved
 pub mod Arcs
 pub mod Exact
 pub mod Data
-pub mod Reserved

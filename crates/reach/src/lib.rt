@@ -4,10 +4,7 @@
 mod columns;
 mod concern;
 pub mod data;
-mod entries;
 mod loads;
-mod memory;
-mod moved;
 mod read;
 mod renew;
 mod reserve;

@@ -14,21 +14,21 @@ impl PlanData {
     pub fn moved(&self) -> &[ModuleIdx]
         ensures { map number result.now ≡ names_in self.now }
     {
-        self.moved.as_slice()
+        &self.moved
     }
 
     // The set of a module; an empty one for a number that no module has.
     pub fn set_of(&self, m: ModuleIdx) -> EntrySet
         ensures { (e : ℕ) → member result e ≡ sets_in self.now m.0 e }
     {
-        self.sets.get(m.0 as usize)
+        self.sets.get(usize::from(m))
     }
 
     // The set of a module before the last accepted edit.
     pub fn earlier_set_of(&self, m: ModuleIdx) -> EntrySet
         ensures { (e : ℕ) → member result e ≡ earlier_in self.now m.0 e }
     {
-        self.earlier.get(m.0 as usize)
+        self.earlier.get(usize::from(m))
     }
 
     pub fn is_included(&self, m: ModuleIdx) -> bool
@@ -47,13 +47,7 @@ impl PlanData {
     pub fn into_export(self) -> Export
         ensures { result ≡ self.export }
     {
-        let PlanData {
-            export,
-            sets: _,
-            earlier: _,
-            moved: _,
-            walker: _,
-        } = self;
+        let PlanData { export, .. } = self;
         export
     }
 }

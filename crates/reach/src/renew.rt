@@ -1,10 +1,12 @@
-ghost use Rattle.std.specs.Prelude.{◌≡◌, length};
+ghost use Rattle.std.specs.Prelude.{◌≡◌, map, length};
 ghost use Rattle.sets.specs.Sets.{member};
-ghost use Rattle.reach.specs.Data.{names_in, Settled, Renewed, Marked};
+ghost use Rattle.tables.specs.Panel.{count};
+ghost use Rattle.reach.specs.Data.{panel_in, graph_in, sets_in, earlier_in, names_in, Settled, Renewed, Marked};
+ghost use Rattle.reach.specs.Exact.{Anew};
+ghost use Rattle.reach.specs.Moved.{passing, differs};
 
 use crate::data::PlanData;
-use crate::entries::walk_again;
-use crate::moved::name_moved;
+use crate::loads::Loads;
 use sets::EntrySet;
 use stores::store::DependencyStore;
 use tables::index::ModuleIdx;
@@ -14,15 +16,9 @@ impl PlanData {
     pub fn settle<S: DependencyStore>(&mut self, store: &S)
         ensures { Settled (S.DependencyStore.loads store.now) self.old self.new }
     {
-        self.work_out(store);
-    }
-
-    fn work_out<S: DependencyStore>(&mut self, store: &S)
-        ensures { Settled (S.DependencyStore.loads store.now) self.old self.new }
-    {
         let all = EntrySet::first(self.sets.entries);
-        walk_again(store, &self.export, all, &mut self.walker, &mut self.sets);
-        self.earlier.copy(&self.sets);
+        self.walk_again(store, all);
+        self.keep_sets();
         self.moved.clear();
     }
 
@@ -31,27 +27,9 @@ impl PlanData {
         ensures renewed { Renewed (S.DependencyStore.loads store.now) (member concern) self.old self.new }
         ensures counted { result ≡ length (names_in self.new) }
     {
-        self.work_out_again(store, concern);
-        self.moved_count()
-    }
-
-    fn work_out_again<S: DependencyStore>(&mut self, store: &S, concern: EntrySet)
-        ensures { Renewed (S.DependencyStore.loads store.now) (member concern) self.old self.new }
-    {
-        self.earlier.copy(&self.sets);
-        walk_again(
-            store,
-            &self.export,
-            concern,
-            &mut self.walker,
-            &mut self.sets,
-        );
-        name_moved(&mut self.moved, &self.earlier, &self.sets);
-    }
-
-    fn moved_count(&self) -> usize
-        ensures { result ≡ length (names_in self.now) }
-    {
+        self.keep_sets();
+        self.walk_again(store, concern);
+        self.name_moved();
         self.moved.len()
     }
 
@@ -60,5 +38,54 @@ impl PlanData {
         ensures { Marked m.0 on self.old self.new }
     {
         self.export.included.put(m, on);
+    }
+
+    // Takes over the sets as the earlier ones.
+    fn keep_sets(&mut self)
+        ensures export { self.new.export ≡ self.old.export }
+        ensures sets { self.new.sets ≡ self.old.sets }
+        ensures earlier { earlier_in self.new ≡ sets_in self.old }
+    {
+        let PlanData { sets, earlier, .. } = self;
+        earlier.sets.copy_from_slice(&sets.sets);
+    }
+
+    // Works out anew, for each entry that is concerned, which modules it reaches.
+    fn walk_again<S: DependencyStore>(&mut self, store: &S, concern: EntrySet)
+        ensures export { self.new.export ≡ self.old.export }
+        ensures earlier { self.new.earlier ≡ self.old.earlier }
+        ensures anew { Anew (length (panel_in self.old).entries) (panel_in self.old) (graph_in (S.DependencyStore.loads store.now) self.old) (member concern) (sets_in self.old) (sets_in self.new) }
+    {
+        let export = &self.export;
+        let sets = &mut self.sets;
+        let walker = &mut self.walker;
+        let loads = Loads { store, export };
+        for (e, entry) in export.table.entries.iter().enumerate() {
+            if concern.contains(e) {
+                loads.determine_reachable_modules_for_entry(entry.module, walker);
+                sets.put_column(e, walker);
+            }
+        }
+    }
+
+    // Names the modules whose sets differ, and no others, in memory that is there.
+    fn name_moved(&mut self)
+        ensures export { self.new.export ≡ self.old.export }
+        ensures sets { self.new.sets ≡ self.old.sets }
+        ensures earlier { self.new.earlier ≡ self.old.earlier }
+        ensures names { names_in self.new ≡ passing (differs (length (panel_in self.old).entries) (earlier_in self.old) (sets_in self.old)) 0 (count (panel_in self.old)) }
+    {
+        let PlanData {
+            sets,
+            earlier,
+            moved,
+            ..
+        } = self;
+        moved.clear();
+        for (y, set) in sets.sets.iter().enumerate() {
+            if !earlier.get(y).equals(set) {
+                moved.push_reserved(ModuleIdx(y as u16));
+            }
+        }
     }
 }
