@@ -6,30 +6,25 @@ use stores::store::DependencyStore;
 use tables::index::ModuleIdx;
 use tables::refusal::Refusal;
 
+// So many modules, each so far from the one before.
 #[derive(Clone, Copy)]
-pub(crate) enum Kind {
-    Unlink,
-    Link,
-    Exclude,
-    Include,
+pub(crate) struct Spread {
+    pub(crate) count: u16,
+    pub(crate) apart: u16,
 }
 
-// The edit of a kind at the module `m`: of its pair with the next module, or of the next module's mark.
-fn edit<S: DependencyStore>(plan: &mut Plan<S>, kind: Kind, m: u16) -> Result<usize, Refusal> {
-    let next = ModuleIdx(m.wrapping_add(1));
-    match kind {
-        Kind::Unlink => plan.unlink(ModuleIdx(m), next),
-        Kind::Link => plan.link(ModuleIdx(m), next),
-        Kind::Exclude => plan.exclude(next),
-        Kind::Include => plan.include(next),
-    }
-}
-
-// So many edits of a kind, `apart` modules from each other.
-fn edits<S: DependencyStore>(plan: &mut Plan<S>, kind: Kind, count: u16, apart: u16) -> Tally {
-    let mut tally = Tally::none();
-    for i in 0..count {
-        if let Ok(moved) = edit(plan, kind, i.wrapping_mul(apart)) {
+// Makes an edit at each module of a spread; the edit is given the module and the one that comes next.
+fn edits<S: DependencyStore, F: Fn(&mut Plan<S>, ModuleIdx, ModuleIdx) -> Result<usize, Refusal>>(
+    plan: &mut Plan<S>,
+    spread: Spread,
+    edit: &F,
+) -> Tally
+    requires { F.IsAlwaysCallable edit.now }
+{
+    let mut tally = Tally::default();
+    for i in 0..spread.count {
+        let m = i.wrapping_mul(spread.apart);
+        if let Ok(moved) = edit(plan, ModuleIdx(m), ModuleIdx(m.wrapping_add(1))) {
             tally.accepted = tally.accepted.saturating_add(1);
             tally.moved = tally
                 .moved
@@ -39,15 +34,14 @@ fn edits<S: DependencyStore>(plan: &mut Plan<S>, kind: Kind, count: u16, apart: 
     tally
 }
 
-pub(crate) fn batch<S: DependencyStore>(
-    rt: &HostRuntime,
-    plan: &mut Plan<S>,
-    kind: Kind,
-    count: u16,
-    apart: u16,
-) -> io::Result<Tally> {
+pub(crate) fn batch<
+    S: DependencyStore,
+    F: Fn(&mut Plan<S>, ModuleIdx, ModuleIdx) -> Result<usize, Refusal>,
+>(rt: &HostRuntime, plan: &mut Plan<S>, spread: Spread, edit: &F) -> io::Result<Tally>
+    requires { F.IsAlwaysCallable edit.now }
+{
     let start = Instant::now(rt)?;
-    let mut tally = edits(plan, kind, count, apart);
+    let mut tally = edits(plan, spread, edit);
     tally.time = start.elapsed(rt)?;
     Ok(tally)
 }

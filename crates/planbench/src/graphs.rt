@@ -55,13 +55,7 @@ fn loaded(shape: Shape, modules: u16, m: u16, k: u16) -> Option<u16> {
                 Some(d.wrapping_sub(modules))
             }
         }
-        Shape::Blocks => {
-            if d / block == m / block {
-                Some(d)
-            } else {
-                None
-            }
-        }
+        Shape::Blocks => { (d / block == m / block).then_some(d) }
     }
 }
 

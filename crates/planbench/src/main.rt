@@ -9,11 +9,12 @@ mod tallies;
 use anyhow::anyhow;
 use graphs::Shape;
 use measure::{Job, measured};
-use rows::RowStore;
-use squares::SquareStore;
+use rows::Row;
+use squares::Square;
 use std::env;
-use stores::store::DependencyStore;
-use tallies::Measured;
+use stores::layout::Layout;
+use stores::lent::LentStore;
+use tallies::{Counts, Rates};
 
 // Whether the first argument asks for times.
 fn is_timed(rt: &HostRuntime) -> anyhow::Result<bool> {
@@ -25,47 +26,47 @@ fn is_timed(rt: &HostRuntime) -> anyhow::Result<bool> {
     }
 }
 
-fn over_rows(rt: &HostRuntime, job: Job) -> anyhow::Result<Measured> {
-    let mut numbers = [0u16; 33280];
-    match RowStore::create(job.modules as usize, &mut numbers) {
-        Ok(store) => measured(rt, job, store),
-        Err(_) => Err(anyhow!("the rows are refused")),
+// Measures a job over a store in this memory, and tells what was measured.
+fn tell<L: Layout>(
+    rt: &HostRuntime,
+    timed: bool,
+    name: &str,
+    job: Job,
+    memory: &mut [L::Cell],
+) -> anyhow::Result<()> {
+    let Ok(store) = LentStore::<L>::create(usize::from(job.modules), memory) else {
+        return Err(anyhow!("the store is refused"));
+    };
+    let measured = measured(rt, job, store)?;
+    if timed {
+        print!(rt; "{name}: {}", Rates(&measured))?;
+    } else {
+        print!(rt; "{name}: {}", Counts(&measured))?;
     }
-}
-
-fn over_square(rt: &HostRuntime, job: Job) -> anyhow::Result<Measured> {
-    let mut words = [0u64; 4096];
-    match SquareStore::create(job.modules as usize, &mut words) {
-        Ok(store) => measured(rt, job, store),
-        Err(_) => Err(anyhow!("the square is refused")),
-    }
-}
-
-fn tell(rt: &HostRuntime, timed: bool, name: &str, job: Job) -> anyhow::Result<()> {
-    let by_rows = over_rows(rt, job)?;
-    by_rows.print(rt, timed, name, "rows")?;
-    let by_square = over_square(rt, job)?;
-    by_square.print(rt, timed, name, "square")?;
     Ok(())
 }
 
 fn run(rt: &HostRuntime) -> anyhow::Result<()> {
     let timed = is_timed(rt)?;
     let modules = if timed { 512 } else { 128 };
+    let mut numbers = [0u16; 33280];
+    let mut words = [0u64; 4096];
     let ring = Job {
         shape: Shape::Ring,
         modules,
         edits: 8,
         rounds: if timed { 2 } else { 1 },
     };
-    tell(rt, timed, "ring", ring)?;
+    tell::<Row>(rt, timed, "ring, rows", ring, &mut numbers)?;
+    tell::<Square>(rt, timed, "ring, square", ring, &mut words)?;
     let blocks = Job {
         shape: Shape::Blocks,
         modules,
         edits: modules / 8,
         rounds: if timed { 20 } else { 1 },
     };
-    tell(rt, timed, "blocks", blocks)
+    tell::<Row>(rt, timed, "blocks, rows", blocks, &mut numbers)?;
+    tell::<Square>(rt, timed, "blocks, square", blocks, &mut words)
 }
 
 fn main(rt: HostRuntime) -> anyhow::Result<()> {

@@ -1,4 +1,4 @@
-use crate::batches::{Kind, batch};
+use crate::batches::{Spread, batch};
 use crate::graphs::{Shape, panel, put_pairs};
 use crate::tallies::{Measured, Tally};
 use anyhow::anyhow;
@@ -23,15 +23,15 @@ fn round<S: DependencyStore>(
     job: Job,
     sum: &mut Measured,
 ) -> io::Result<()> {
-    let count = job.edits;
-    let apart = job.modules / job.edits.max(1);
-    sum.unlink.add(batch(rt, plan, Kind::Unlink, count, apart)?);
-    sum.exclude
-        .add(batch(rt, plan, Kind::Exclude, count, apart)?);
-    sum.again.add(batch(rt, plan, Kind::Exclude, count, apart)?);
-    sum.link.add(batch(rt, plan, Kind::Link, count, apart)?);
-    sum.include
-        .add(batch(rt, plan, Kind::Include, count, apart)?);
+    let spread = Spread {
+        count: job.edits,
+        apart: job.modules / job.edits.max(1),
+    };
+    sum.unlink += batch(rt, plan, spread, &|plan, m, next| plan.unlink(m, next))?;
+    sum.exclude += batch(rt, plan, spread, &|plan, _, next| plan.exclude(next))?;
+    sum.again += batch(rt, plan, spread, &|plan, _, next| plan.exclude(next))?;
+    sum.link += batch(rt, plan, spread, &|plan, m, next| plan.link(m, next))?;
+    sum.include += batch(rt, plan, spread, &|plan, _, next| plan.include(next))?;
     Ok(())
 }
 
@@ -51,11 +51,11 @@ pub(crate) fn measured<S: DependencyStore + Drop>(
     let mut sum = Measured {
         pairs,
         creation: start.elapsed(rt)?,
-        unlink: Tally::none(),
-        exclude: Tally::none(),
-        again: Tally::none(),
-        link: Tally::none(),
-        include: Tally::none(),
+        unlink: Tally::default(),
+        exclude: Tally::default(),
+        again: Tally::default(),
+        link: Tally::default(),
+        include: Tally::default(),
     };
     for _ in 0..job.rounds {
         round(rt, &mut plan, job, &mut sum)?;

@@ -1,14 +1,16 @@
-use crate::samples::{panel, planned, rows, square};
+use crate::samples::{lent, panel, planned};
 use crate::steps::{agrees, exclude, include, link, unlink};
 use exports::export::BuildError;
 use plans::plan::Plan;
+use rows::Row;
+use squares::Square;
 use std::alloc::Global;
 use std::process::Abort;
 use std::test::Fail;
 use stores::store::DependencyStore;
 use tables::index::ModuleIdx;
 
-// The refusal of a plan over a store of 4 modules that holds the pair (1, 2), then how many modules and entries the export has that comes back, and whether the store has its pair.
+// The number that refuses a plan over a store of 4 modules that holds the pair (1, 2), then how many modules and entries the export has that comes back, and whether the store has its pair.
 fn rejected<S: DependencyStore + Drop>(
     rt: &impl Abort,
     heap: Global,
@@ -16,7 +18,7 @@ fn rejected<S: DependencyStore + Drop>(
     starts: &[u16],
     external: Option<usize>,
     mut store: S,
-) -> Result<(u8, usize, usize, bool), Fail> {
+) -> Result<(Option<u8>, usize, usize, bool), Fail> {
     assert!(rt; store.link(ModuleIdx(1), ModuleIdx(2)).is_ok());
     let Ok(export) = panel(heap, count, starts, external) else {
         return Err(Fail::new("panel refused"));
@@ -25,8 +27,8 @@ fn rejected<S: DependencyStore + Drop>(
         return Err(Fail::new("accepted"));
     };
     let number = match back.why {
-        BuildError::Refused(why) => why.number(),
-        BuildError::OutOfMemory => 0,
+        BuildError::Refused(why) => Some(u8::from(why)),
+        BuildError::OutOfMemory => None,
     };
     let modules = back.export.table.len();
     let entries = back.export.table.entries.len();
@@ -43,10 +45,24 @@ fn is_rejected(
     starts: &[u16],
     external: Option<usize>,
 ) -> Result<(), Fail> {
-    let told = (number, count, starts.len(), true);
-    let over_rows = rejected(rt, heap, count, starts, external, rows(&mut [0; 260])?)?;
+    let told = (Some(number), count, starts.len(), true);
+    let over_rows = rejected(
+        rt,
+        heap,
+        count,
+        starts,
+        external,
+        lent::<Row>(&mut [0; 260])?,
+    )?;
     assert_eq!(rt; over_rows, told);
-    let over_square = rejected(rt, heap, count, starts, external, square(&mut [0; 32])?)?;
+    let over_square = rejected(
+        rt,
+        heap,
+        count,
+        starts,
+        external,
+        lent::<Square>(&mut [0; 32])?,
+    )?;
     assert_eq!(rt; over_square, told);
     Ok(())
 }
@@ -77,8 +93,8 @@ fn takes_over<S: DependencyStore + Drop>(
 
 #[test]
 fn a_store_may_have_pairs_before(rt: HostRuntime) -> Result<(), Fail> {
-    takes_over(&rt, rt.alloc(), rows(&mut [0; 260])?)?;
-    takes_over(&rt, rt.alloc(), square(&mut [0; 32])?)
+    takes_over(&rt, rt.alloc(), lent::<Row>(&mut [0; 260])?)?;
+    takes_over(&rt, rt.alloc(), lent::<Square>(&mut [0; 32])?)
 }
 
 // A list of edits, two of which are refused, leaves what they leave one by one; the export and the store come out with what they changed.
@@ -109,6 +125,6 @@ fn performs<S: DependencyStore + Drop>(
 
 #[test]
 fn a_list_of_edits_is_performed(rt: HostRuntime) -> Result<(), Fail> {
-    performs(&rt, rt.alloc(), rows(&mut [0; 260])?)?;
-    performs(&rt, rt.alloc(), square(&mut [0; 32])?)
+    performs(&rt, rt.alloc(), lent::<Row>(&mut [0; 260])?)?;
+    performs(&rt, rt.alloc(), lent::<Square>(&mut [0; 32])?)
 }

@@ -1,9 +1,9 @@
 use exports::export::{BuildError, Export};
 use plans::plan::Plan;
-use rows::RowStore;
-use squares::SquareStore;
 use std::alloc::Global;
 use std::test::Fail;
+use stores::layout::Layout;
+use stores::lent::LentStore;
 use stores::store::DependencyStore;
 use tables::index::ModuleIdx;
 use tables::module::{
@@ -47,21 +47,12 @@ pub(crate) fn panel(
     Ok(export)
 }
 
-// An empty store of a module for each 65 numbers.
-pub(crate) fn rows<'a>(numbers: &'a mut [u16]) -> Result<RowStore<'a>, Fail> {
-    let size = numbers.len() / 65;
-    match RowStore::create(size, numbers) {
+// An empty store of as many modules as the memory has room for.
+pub(crate) fn lent<'a, L: Layout>(memory: &'a mut [L::Cell]) -> Result<LentStore<'a, L>, Fail> {
+    let size = memory.len().checked_div(L::MEMORY_PER_MODULE).unwrap_or(0);
+    match LentStore::create(size, memory) {
         Ok(store) => Ok(store),
-        Err(_) => Err(Fail::new("rows refused")),
-    }
-}
-
-// An empty store of a module for each 8 words.
-pub(crate) fn square<'a>(words: &'a mut [u64]) -> Result<SquareStore<'a>, Fail> {
-    let size = words.len() / 8;
-    match SquareStore::create(size, words) {
-        Ok(store) => Ok(store),
-        Err(_) => Err(Fail::new("square refused")),
+        Err(_) => Err(Fail::new("store refused")),
     }
 }
 
@@ -75,8 +66,5 @@ pub(crate) fn planned<S: DependencyStore + Drop>(
     let Ok(export) = panel(heap, store.size(), starts, external) else {
         return Err(Fail::new("panel refused"));
     };
-    match Plan::create(heap, export, store) {
-        Ok(plan) => Ok(plan),
-        Err(_) => Err(Fail::new("plan refused")),
-    }
+    Plan::create(heap, export, store).map_err(|_| Fail::new("plan refused"))
 }

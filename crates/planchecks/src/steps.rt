@@ -1,15 +1,16 @@
-use crate::samples::{planned, rows, square};
+use crate::samples::{lent, planned};
 use plans::plan::{Edit, Plan};
+use rows::Row;
+use squares::Square;
 use std::alloc::Global;
 use std::process::Abort;
 use std::test::Fail;
 use stores::store::DependencyStore;
 use tables::index::ModuleIdx;
-use tables::refusal::Refusal;
 
-// An edit, the number of its refusal or 0, and the sets of four modules after it, as numbers with bit e for entry e.
+// An edit, and the sets of four modules after it, as numbers with bit e for entry e, or the number of its refusal.
 #[derive(Clone, Copy)]
-pub(crate) struct Step(pub(crate) Edit, pub(crate) u8, pub(crate) [u64; 4]);
+pub(crate) struct Step(pub(crate) Edit, pub(crate) Result<[u64; 4], u8>);
 
 pub(crate) fn link(m: u16, d: u16) -> Edit {
     Edit::Link(ModuleIdx(m), ModuleIdx(d))
@@ -27,21 +28,9 @@ pub(crate) fn exclude(m: u16) -> Edit {
     Edit::Exclude(ModuleIdx(m))
 }
 
-fn answer<S: DependencyStore>(plan: &mut Plan<S>, edit: Edit) -> Result<usize, Refusal> {
-    match edit {
-        Edit::Link(m, d) => plan.link(m, d),
-        Edit::Unlink(m, d) => plan.unlink(m, d),
-        Edit::Include(m) => plan.include(m),
-        Edit::Exclude(m) => plan.exclude(m),
-    }
-}
-
-// The number of the refusal, or 0, and how many modules moved.
-pub(crate) fn told<S: DependencyStore>(plan: &mut Plan<S>, edit: Edit) -> (u8, usize) {
-    match answer(plan, edit) {
-        Ok(moved) => (0, moved),
-        Err(why) => (why.number(), 0),
-    }
+// How many modules moved, or the number of the refusal.
+pub(crate) fn told<S: DependencyStore>(plan: &mut Plan<S>, edit: Edit) -> Result<usize, u8> {
+    plan.edit(edit).map_err(u8::from)
 }
 
 // The sets of the first modules are `after` and were `before`, and those that differ are the modules that moved; answers how many.
@@ -51,22 +40,17 @@ pub(crate) fn agrees<S: DependencyStore>(
     before: &[u64],
     after: &[u64],
 ) -> usize {
-    let moved = plan.moved();
-    let mut count: usize = 0;
-    for m in 0..before.len().min(after.len()).min(512) {
-        let module = ModuleIdx(m as u16);
-        assert_eq!(rt; plan.earlier_set_of(module).bits(), before[m]);
-        assert_eq!(rt; plan.set_of(module).bits(), after[m]);
-        if before[m] != after[m] {
-            assert_eq!(rt;
-                moved.get(count).copied().unwrap_or(ModuleIdx(512)).0,
-                module.0
-            );
-            count = count.saturating_add(1);
+    let mut moved = plan.moved().iter().copied();
+    for (m, (before, after)) in (0..512u16).zip(before.iter().zip(after)) {
+        let module = ModuleIdx(m);
+        assert_eq!(rt; u64::from(plan.earlier_set_of(module)), *before);
+        assert_eq!(rt; u64::from(plan.set_of(module)), *after);
+        if before != after {
+            assert_eq!(rt; moved.next(), Some(module));
         }
     }
-    assert_eq!(rt; moved.len(), count);
-    count
+    assert_eq!(rt; moved.next(), None);
+    plan.moved().len()
 }
 
 // Makes the edits in turn on a panel of four modules whose sets are `first`. A refused edit leaves what the last accepted one did.
@@ -79,14 +63,13 @@ fn goes<S: DependencyStore + Drop>(
     let mut before = first;
     let mut after = first;
     for step in steps {
-        let (number, moved) = told(&mut plan, step.0);
-        assert_eq!(rt; number, step.1);
-        if number == 0 {
+        let answer = told(&mut plan, step.0);
+        if let Ok(sets) = step.1 {
             before = after;
-            after = step.2;
+            after = sets;
         }
         let differing = agrees(rt, &plan, &before, &after);
-        assert!(rt; number != 0 || moved == differing);
+        assert_eq!(rt; answer, step.1.map(|_| differing));
     }
 }
 
@@ -99,10 +82,10 @@ pub(crate) fn go(
     steps: &[Step],
 ) -> Result<(), Fail> {
     let mut numbers = [0u16; 260];
-    let over_rows = planned(heap, starts, external, rows(&mut numbers)?)?;
+    let over_rows = planned(heap, starts, external, lent::<Row>(&mut numbers)?)?;
     goes(rt, over_rows, first, steps);
     let mut words = [0u64; 32];
-    let over_square = planned(heap, starts, external, square(&mut words)?)?;
+    let over_square = planned(heap, starts, external, lent::<Square>(&mut words)?)?;
     goes(rt, over_square, first, steps);
     Ok(())
 }

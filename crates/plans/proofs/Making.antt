@@ -1,12 +1,13 @@
 -- What an accepted edit of a pair and of a mark leaves.
-use Rattle.std.proofs.Common.{◌≡◌, ℕ, ◌<◌, Bool, true, List, length, set, Ok, vec_items, sym, refl, ap, ◌∙◌}
+use Rattle.std.proofs.Common.{◌≡◌, ℕ, ◌<◌, ◌≤◌, Bool, true, List, length, set, Ok, Err, vec_items, sym, refl, ap, ◌∙◌, ⊎_elim, arith}
 use mathlib.Core.Path.{fun_ext}
 use Rattle.exports.specs.declared.export.Export.{Export}
-use Rattle.std.proofs.lemmas.Bool.{cond-true, lt-ltb}
+use Rattle.std.proofs.lemmas.Bool.{cases_lt, cond-true, cond-false, lt-ltb, le-ltb}
 use Rattle.stores.specs.Answers.{Outcome}
 use Rattle.stores.specs.Pairs.{Pairs, changed}
 use Rattle.tables.specs.Panel.{count}
 use Rattle.tables.specs.View.{panel_of}
+use Rattle.tables.specs.declared.refusal.Refusal.{Refusal}
 use Rattle.reach.specs.Data.{panel_in, marks_in, sets_in, names_in, Renewed, Marked}
 use Rattle.reach.specs.Held.{held}
 use Rattle.reach.specs.declared.data.PlanData.{PlanData}
@@ -25,6 +26,12 @@ sets_same m v old mid marked = ap (λ (t : SetTable). held (vec_items t.sets)) m
 
 pub mark_allowed : (n m : ℕ) → m < n → mark_answer n m ≡ Ok tt
 mark_allowed n m l = cond-true _ (Ok tt) _ (lt-ltb m n l)
+
+pub allowed_below : (n m : ℕ) → mark_answer n m ≡ Ok tt → m < n
+allowed_below n m h = ⊎_elim (λ (l : m < n). l) (λ (g : n ≤ m). let no : ◌≡◌ {A = ℕ} 0 1 = refused (cond-false _ (Ok tt) _ (le-ltb m n g)) in absurd (omega arith)) (cases_lt m n)
+  where
+    refused : {why : Refusal} → mark_answer n m ≡ Err why → ◌≡◌ {A = ℕ} 0 1
+    refused e = cc
 
 module _ {S : Type 0} (modules : S → ℕ) (loads : S → Pairs) (outside : S → List ℕ) (before : Plan S) (new : PlanData) (concern : ℕ → Bool) (k : ℕ) (counted : k ≡ length (names_in new)) where
   pub pair_made : (store : S) (answer : Outcome) (v : Bool) (m d : ℕ) → Ok tt ≡ answer → modules store ≡ modules before.store → outside store ≡ outside before.store

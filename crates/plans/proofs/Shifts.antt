@@ -6,7 +6,8 @@ use Rattle.tables.specs.Graph.{Graph, open_at, Path, start, Reaches}
 use Rattle.tables.specs.Graph.Path.{here, on}
 use Rattle.reach.specs.Exact.{Exact, Anew}
 use Rattle.reach.specs.Moved.{unlike, differs}
-use Rattle.reach.proofs.Passes.{some_at, some_since, unlike_cases, unlike_from, unlike_back}
+use Rattle.exports.proofs.Below.{some_at, some_since}
+use Rattle.reach.proofs.Passes.{unlike_cases, unlike_from, unlike_back}
 use Rattle.reach.proofs.Ways.{ends_open, open_below}
 use Rattle.plans.specs.Book.{Call, linking, unlinking, including, excluding, target, edited}
 use Rattle.plans.specs.Lawful.{Moves}

@@ -19,6 +19,7 @@ impl<S: DependencyStore> Plan<S> {
         Self::made_of(heap, export, store)
     }
 
+    // Apart from `create`, so that a wrong answer there is refused for the promise. No `?`, since each refusal gives export and store back.
     fn made_of(heap: Global, export: Export, store: S) -> Result<Plan<S>, Rejected<S>>
         ensures answer { AnswersCreation (creation_answer (panel_of export.table) (S.modules store)) (cause_of result) }
         ensures judged { CreationJudged (panel_of export.table) (S.modules store) (cause_of result) }
@@ -51,14 +52,10 @@ fn judge<S: DependencyStore>(export: &Export, store: &S) -> Result<(), Refusal>
     ensures answer { result ≡ creation_answer (panel_of export.now.table) (S.DependencyStore.modules store.now) }
     ensures judged { SizedJudged (panel_of export.now.table) (S.DependencyStore.modules store.now) result }
 {
-    match export.check() {
-        Ok(()) => {
-            if store.size() == export.table.len() {
-                Ok(())
-            } else {
-                Err(Refusal::StoreSize)
-            }
-        }
-        Err(why) => Err(why),
+    export.check()?;
+    if store.size() == export.table.len() {
+        Ok(())
+    } else {
+        Err(Refusal::StoreSize)
     }
 }

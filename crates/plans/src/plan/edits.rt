@@ -1,8 +1,9 @@
 ghost use Rattle.plans.specs.Accounts.{Extends};
 ghost use Rattle.plans.specs.Book.{linking, unlinking, including, excluding};
 ghost use Rattle.plans.specs.Edited.{EditedBy};
+ghost use Rattle.plans.specs.Runs.{call_for};
 
-use crate::plan::Plan;
+use crate::plan::{Edit, Plan};
 use stores::store::DependencyStore;
 use tables::index::ModuleIdx;
 use tables::refusal::Refusal;
@@ -39,5 +40,18 @@ impl<S: DependencyStore> Plan<S> {
         ensures lawful { Extends S.modules S.loads (excluding m.0) self.old result self.new }
     {
         self.clear_mark(m)
+    }
+
+    // The edit that a value names.
+    pub fn edit(&mut self, edit: Edit) -> Result<usize, Refusal>
+        ensures edited { EditedBy S.modules S.loads S.outside (call_for edit) self.old result self.new }
+        ensures lawful { Extends S.modules S.loads (call_for edit) self.old result self.new }
+    {
+        match edit {
+            Edit::Link(m, d) => self.link(m, d),
+            Edit::Unlink(m, d) => self.unlink(m, d),
+            Edit::Include(m) => self.include(m),
+            Edit::Exclude(m) => self.exclude(m),
+        }
     }
 }

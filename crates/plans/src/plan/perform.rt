@@ -16,24 +16,12 @@ impl<S: DependencyStore> Plan<S> {
         self.make_all(edits);
     }
 
+    // Apart from `perform`, so that edits that are left out there are refused for the promise.
     fn make_all(&mut self, edits: &[Edit])
         ensures { (p : Panel) (g : Graph) (h : History) → Accounts S.modules S.loads p g h self.old → (t : History) × (Asked edits.now t × Accounts S.modules S.loads p g (t ++ h) self.new) }
     {
         for e in edits {
-            match *e {
-                Edit::Link(m, d) => {
-                    let _ = self.link(m, d);
-                }
-                Edit::Unlink(m, d) => {
-                    let _ = self.unlink(m, d);
-                }
-                Edit::Include(m) => {
-                    let _ = self.include(m);
-                }
-                Edit::Exclude(m) => {
-                    let _ = self.exclude(m);
-                }
-            }
+            let _ = self.edit(*e);
         }
     }
 }

@@ -14,7 +14,7 @@ use stores::store::DependencyStore;
 use tables::index::ModuleIdx;
 use tables::table::Table;
 
-// Questions: each changes nothing, and says what it means by the book of any history that the plan accounts for.
+// Questions: each changes nothing, and says what it means by the book of any history that the plan accounts for. No invariant says so, since it could name only that there is some history.
 impl<S: DependencyStore> Plan<S> {
     // The modules that the last accepted edit moved, ascending.
     pub fn moved(&self) -> &[ModuleIdx]
@@ -29,7 +29,7 @@ impl<S: DependencyStore> Plan<S> {
         ensures members { (e : ℕ) → member result e ≡ sets_in self.now.data m.0 e }
         ensures lawful { (p : Panel) (g : Graph) (h : History) → Accounts S.modules S.loads p g h self.now → (e : ℕ) → Decides (member result e) (Reaches p (book g h) e m.0) }
     {
-        self.now_of(m)
+        self.data.set_of(m)
     }
 
     // The entries that reached a module before the last accepted edit.
@@ -37,7 +37,7 @@ impl<S: DependencyStore> Plan<S> {
         ensures members { (e : ℕ) → member result e ≡ earlier_in self.now.data m.0 e }
         ensures lawful { (p : Panel) (g : Graph) (h : History) → Accounts S.modules S.loads p g h self.now → (e : ℕ) → Decides (member result e) (Reaches p (earlier_book g h) e m.0) }
     {
-        self.before_of(m)
+        self.data.earlier_set_of(m)
     }
 
     // Whether an entry reaches a module.
@@ -45,14 +45,14 @@ impl<S: DependencyStore> Plan<S> {
         ensures value { result ≡ sets_in self.now.data m.0 e }
         ensures lawful { (p : Panel) (g : Graph) (h : History) → Accounts S.modules S.loads p g h self.now → Decides result (Reaches p (book g h) e m.0) }
     {
-        self.is_reached(e, m)
+        self.set_of(m).contains(e)
     }
 
     pub fn is_included(&self, m: ModuleIdx) -> bool
         ensures value { result ≡ slice_index_or (marks_in self.now.data) m.0 false }
         ensures lawful { (p : Panel) (g : Graph) (h : History) → Accounts S.modules S.loads p g h self.now → result ≡ (book g h).included m.0 }
     {
-        self.is_marked(m)
+        self.data.is_included(m)
     }
 
     pub fn table(&self) -> &Table
@@ -75,33 +75,5 @@ impl<S: DependencyStore> Plan<S> {
     {
         let Plan { store, data } = self;
         (data.into_export(), store)
-    }
-
-    fn now_of(&self, m: ModuleIdx) -> EntrySet
-        ensures members { (e : ℕ) → member result e ≡ sets_in self.now.data m.0 e }
-        ensures lawful { (p : Panel) (g : Graph) (h : History) → Accounts S.modules S.loads p g h self.now → (e : ℕ) → Decides (member result e) (Reaches p (book g h) e m.0) }
-    {
-        self.data.set_of(m)
-    }
-
-    fn before_of(&self, m: ModuleIdx) -> EntrySet
-        ensures members { (e : ℕ) → member result e ≡ earlier_in self.now.data m.0 e }
-        ensures lawful { (p : Panel) (g : Graph) (h : History) → Accounts S.modules S.loads p g h self.now → (e : ℕ) → Decides (member result e) (Reaches p (earlier_book g h) e m.0) }
-    {
-        self.data.earlier_set_of(m)
-    }
-
-    fn is_reached(&self, e: usize, m: ModuleIdx) -> bool
-        ensures value { result ≡ sets_in self.now.data m.0 e }
-        ensures lawful { (p : Panel) (g : Graph) (h : History) → Accounts S.modules S.loads p g h self.now → Decides result (Reaches p (book g h) e m.0) }
-    {
-        self.data.set_of(m).contains(e)
-    }
-
-    fn is_marked(&self, m: ModuleIdx) -> bool
-        ensures value { result ≡ slice_index_or (marks_in self.now.data) m.0 false }
-        ensures lawful { (p : Panel) (g : Graph) (h : History) → Accounts S.modules S.loads p g h self.now → result ≡ (book g h).included m.0 }
-    {
-        self.data.is_included(m)
     }
 }

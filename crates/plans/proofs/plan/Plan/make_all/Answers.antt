@@ -9,7 +9,6 @@ use Rattle.plans.specs.Accounts.{Accounts}
 use Rattle.plans.specs.Book.{Call, linking, unlinking, including, excluding, Event, History, event_of}
 use Rattle.plans.specs.Runs.{Asked, call_for, call_in}
 use Rattle.plans.proofs.plan.Plan.make_all.Goals as goal
-use Rattle.plans.proofs.plan.Plan.make_all.Goals.{in-Link, in-Unlink, in-Include, in-Exclude}
 
 called : (c : Call) (r : Result ℕ Refusal) (names : List ℕ) → call_in (event_of c r names) ≡ c
 called c (Ok k) names = refl
@@ -28,25 +27,10 @@ pub loop-e-preserved : goal.loop-e-preserved
 loop-e-preserved g c p q h st =
     let before = c.loop-e.invariant p q h st in
     let s = g.S.DependencyStore in
-    let accounts : (e : Event) → Plan g.row.S.Denot → Type 0 = λ e plan. Accounts s.modules s.loads p q (e ∷ (before.0 ++ h)) plan in
-    elim c.match-e.branch [
-      | in-Link w ↦
-          let names = names_in w.link.new.self.«data» in
-          let e = event_of (linking w.in-Link.m.0 w.in-Link.d.0) w.link.result names in
-          (e ∷ before.0, (asked_more c.args.edits.now c.loop-e.e-index _ _ before.0 w.link.result names c.loop-e-test.true w.in-Link.is before.1.0, subst (accounts e) (sym w.self-is) (w.link.ensures.lawful p q (before.0 ++ h) before.1.1)))
-      | in-Unlink w ↦
-          let names = names_in w.unlink.new.self.«data» in
-          let e = event_of (unlinking w.in-Unlink.m.0 w.in-Unlink.d.0) w.unlink.result names in
-          (e ∷ before.0, (asked_more c.args.edits.now c.loop-e.e-index _ _ before.0 w.unlink.result names c.loop-e-test.true w.in-Unlink.is before.1.0, subst (accounts e) (sym w.self-is) (w.unlink.ensures.lawful p q (before.0 ++ h) before.1.1)))
-      | in-Include w ↦
-          let names = names_in w.include.new.self.«data» in
-          let e = event_of (including w.in-Include.m.0) w.include.result names in
-          (e ∷ before.0, (asked_more c.args.edits.now c.loop-e.e-index _ _ before.0 w.include.result names c.loop-e-test.true w.in-Include.is before.1.0, subst (accounts e) (sym w.self-is) (w.include.ensures.lawful p q (before.0 ++ h) before.1.1)))
-      | in-Exclude w ↦
-          let names = names_in w.exclude.new.self.«data» in
-          let e = event_of (excluding w.in-Exclude.m.0) w.exclude.result names in
-          (e ∷ before.0, (asked_more c.args.edits.now c.loop-e.e-index _ _ before.0 w.exclude.result names c.loop-e-test.true w.in-Exclude.is before.1.0, subst (accounts e) (sym w.self-is) (w.exclude.ensures.lawful p q (before.0 ++ h) before.1.1)))
-    ]
+    let x = get_or c.args.edits.now c.loop-e.e-index _ in
+    let names = names_in c.edit.new.self.«data» in
+    let e = event_of (call_for x) c.edit.result names in
+    (e ∷ before.0, (asked_more c.args.edits.now c.loop-e.e-index _ _ before.0 c.edit.result names c.loop-e-test.true refl before.1.0, c.edit.ensures.lawful p q (before.0 ++ h) before.1.1))
 
 pub returns : goal.returns
 returns g c p q h st =

@@ -1,12 +1,10 @@
-use Rattle.std.proofs.Common.{◌<◌, true, refl, ap, arith}
+use Rattle.std.proofs.Common.{◌<◌, true, refl, ap, arith, rules}
 use Rattle.sets.specs.Sets.{member}
 use Rattle.tables.specs.Panel.{Panel, count}
-use Rattle.tables.specs.View.{panel_of}
-use Rattle.tables.specs.declared.table.Table.{Table}
 use Rattle.reach.specs.Data.{panel_in}
 use Rattle.plans.specs.Book.{including}
 use Rattle.plans.proofs.Accounting.{accepts, include_spared, mark_graph}
-use Rattle.plans.proofs.Making.{mark_made, mark_allowed, panels_same, sets_same}
+use Rattle.plans.proofs.Making.{allowed_below, mark_made, mark_allowed, panels_same, sets_same}
 use Rattle.plans.proofs.plan.Plan.set_mark.Goals as goal
 
 pub returns : goal.returns
@@ -18,7 +16,7 @@ returns g c =
     let concern = member c.include_concern-concern.result in
     let marked = c.put_mark.ensures in
     let renew = c.renew.ensures in
-    let inside : m < count (panel_in before.«data») = omega (arith, c.if-m-len.false, c.len.ensures, ap (λ (t : Table). count (panel_of t)) c.table.ensures) in
+    let inside : m < count (panel_in before.«data») = allowed_below (count (panel_in before.«data»)) m (search rules) in
     record {
       edited = mark_made s.modules s.loads s.outside before c.renew.new.self concern c.renew.result renew.counted mid m true inside marked renew.renewed;
       lawful = λ p opening h st.
