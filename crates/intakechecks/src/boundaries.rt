@@ -1,4 +1,4 @@
-use crate::exports_read::told;
+use crate::exports_read::{Told, told};
 use std::alloc::{AllocError, Global};
 use std::process::Abort;
 use std::test::Fail;
@@ -29,14 +29,14 @@ fn limited(
 ) -> Result<(), Fail> {
     let lines = before.saturating_add(u32::from(limit)).saturating_add(1);
     let fits = repeated(heap, head, line, limit, "44\n")?;
-    assert_eq!(rt; told(heap, fits.as_str())?, (0, lines));
+    assert_eq!(rt; told(heap, fits.as_str())?, Ok(lines));
     let past = repeated(heap, head, line, limit.saturating_add(1), "44\n")?;
-    assert_eq!(rt; told(heap, past.as_str())?, (5, lines));
+    assert_eq!(rt; told(heap, past.as_str())?, Err((5, lines)));
     Ok(())
 }
 
 // What an M line with an id of so many bytes is told.
-fn module_told(heap: Global, head: &str, id_bytes: u16) -> Result<(u8, u32), AllocError> {
+fn module_told(heap: Global, head: &str, id_bytes: u16) -> Result<Told, Fail> {
     let text = repeated(heap, head, "61", id_bytes, "\n44\n")?;
     told(heap, text.as_str())
 }
@@ -45,13 +45,13 @@ fn module_told(heap: Global, head: &str, id_bytes: u16) -> Result<(u8, u32), All
 fn ids_have_1_to_200_bytes(rt: HostRuntime) -> Result<(), Fail> {
     let head = "47000000\n4D000200000001";
     let heap = rt.alloc();
-    assert_eq!(rt; module_told(heap, head, 200)?, (0, 3));
-    assert_eq!(rt; module_told(heap, head, 201)?, (5, 2));
-    assert_eq!(rt; module_told(heap, head, 249)?, (5, 2), "512 digits");
-    assert_eq!(rt; module_told(heap, head, 250)?, (1, 2), "514 digits");
+    assert_eq!(rt; module_told(heap, head, 200)?, Ok(3));
+    assert_eq!(rt; module_told(heap, head, 201)?, Err((5, 2)));
+    assert_eq!(rt; module_told(heap, head, 249)?, Err((5, 2)), "512 digits");
+    assert_eq!(rt; module_told(heap, head, 250)?, Err((1, 2)), "514 digits");
     assert_eq!(rt;
         module_told(heap, head, 9000)?,
-        (1, 2),
+        Err((1, 2)),
         "a line that is not held whole"
     );
     Ok(())
@@ -62,8 +62,8 @@ fn ids_have_32768_bytes_in_all(rt: HostRuntime) -> Result<(), Fail> {
     let heap = rt.alloc();
     let wide = repeated(heap, "4D000200000001", "61", 64, "\n")?;
     let head = repeated(heap, "47000000\n", wide.as_str(), 511, "4D000200000001")?;
-    assert_eq!(rt; module_told(heap, head.as_str(), 64)?, (0, 514));
-    assert_eq!(rt; module_told(heap, head.as_str(), 65)?, (5, 513));
+    assert_eq!(rt; module_told(heap, head.as_str(), 64)?, Ok(514));
+    assert_eq!(rt; module_told(heap, head.as_str(), 65)?, Err((5, 513)));
     Ok(())
 }
 

@@ -1,30 +1,35 @@
 use exports::export::BuildError;
 use panels::session::Session;
-use std::alloc::{AllocError, Global};
+use std::alloc::Global;
 use std::process::Abort;
 use std::test::Fail;
 use tables::index::ModuleIdx;
 
-// The number of the first refusal and its line; 0 and the number of lines where all are accepted.
-pub(crate) fn told(heap: Global, text: &str) -> Result<(u8, u32), AllocError> {
-    let mut session = Session::new(heap)?;
+// How many lines were read where all are accepted; else the number of the first refusal, and its line.
+pub(crate) type Told = Result<u32, (u8, u32)>;
+
+fn read(session: &mut Session, text: &str) -> Result<(), BuildError> {
     for b in text.as_bytes() {
-        if let Err(BuildError::Refused(why)) = session.push(*b) {
-            return Ok((why.number(), session.lines));
-        }
+        session.push(*b)?;
     }
-    if let Err(BuildError::Refused(why)) = session.finish() {
-        return Ok((why.number(), session.lines));
+    session.finish()
+}
+
+pub(crate) fn told(heap: Global, text: &str) -> Result<Told, Fail> {
+    let mut session = Session::new(heap)?;
+    match read(&mut session, text) {
+        Ok(()) => Ok(Ok(session.lines)),
+        Err(BuildError::Refused(why)) => Ok(Err((u8::from(why), session.lines))),
+        Err(BuildError::OutOfMemory) => Err(Fail::new("out of memory")),
     }
-    Ok((0, session.lines))
 }
 
 // What is tried, the text, and what is to be told of it.
-pub(crate) struct Case(pub &'static str, pub &'static str, pub u8, pub u32);
+pub(crate) struct Case(pub &'static str, pub &'static str, pub Told);
 
 pub(crate) fn agree(rt: &impl Abort, heap: Global, cases: &[Case]) -> Result<(), Fail> {
     for case in cases {
-        assert_eq!(rt; told(heap, case.1)?, (case.2, case.3), "{}", case.0);
+        assert_eq!(rt; told(heap, case.1)?, case.2, "{}", case.0);
     }
     Ok(())
 }
@@ -74,10 +79,10 @@ fn a_last_line_needs_no_line_feed(rt: HostRuntime) -> Result<(), Fail> {
         &rt,
         rt.alloc(),
         &[
-            Case("nothing", "", 0, 0),
-            Case("no line feed", "47000000", 0, 1),
-            Case("a line feed at the end", "47000000\n", 0, 1),
-            Case("an empty line", "47000000\n\n", 1, 2),
+            Case("nothing", "", Ok(0)),
+            Case("no line feed", "47000000", Ok(1)),
+            Case("a line feed at the end", "47000000\n", Ok(1)),
+            Case("an empty line", "47000000\n\n", Err((1, 2))),
         ],
     )
 }

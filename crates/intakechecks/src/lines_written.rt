@@ -2,6 +2,7 @@ use lines::{ChunkLine, write_chunk, write_count, write_edit, write_refusal};
 use sets::EntrySet;
 use std::process::Abort;
 use tables::index::{ChunkIdx, ModuleIdx};
+use tables::module::ChunkKind;
 use tables::refusal::Refusal;
 
 // A line of this text was written at the beginning, and what lies past it is as it was.
@@ -24,6 +25,12 @@ fn the_sample_answers_are_written(rt: HostRuntime) {
     };
     let len = write_chunk(&mut out, &chunk, &[ModuleIdx(1), ModuleIdx(0)]);
     written(&rt, &out, len, "4300000100000000000000010000000200010000");
+}
+
+#[test]
+fn kinds_of_chunks_have_their_numbers(rt: HostRuntime) {
+    let numbers = [ChunkKind::Common, ChunkKind::Entry, ChunkKind::Runtime].map(u8::from);
+    assert_eq!(rt; numbers, [0, 1, 2]);
 }
 
 #[test]

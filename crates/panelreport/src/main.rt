@@ -2,17 +2,16 @@
 #![tactic(auto)]
 
 use exports::export::BuildError;
-use frames::stage::Stage;
 use panels::session::Session;
-use reports::report::{Outcome, Report};
+use reports::report::{Report, Unaccepted};
 use std::io;
 use std::io::Read;
 
 // How a line that was not accepted ends the reading.
-fn ended(session: &Session, error: BuildError) -> Outcome {
+fn ended(session: &Session, error: BuildError) -> Unaccepted {
     match error {
-        BuildError::Refused(why) => Outcome::Refused(why, session.lines),
-        BuildError::OutOfMemory => Outcome::OutOfMemory,
+        BuildError::Refused(why) => Unaccepted::Refused(why, session.lines),
+        BuildError::OutOfMemory => Unaccepted::OutOfMemory,
     }
 }
 
@@ -23,7 +22,15 @@ fn push_all(session: &mut Session, bytes: &[u8]) -> Result<(), BuildError> {
     Ok(())
 }
 
-fn read_export(rt: &HostRuntime, session: &mut Session) -> io::Result<Outcome> {
+// The input's end; tables that no call follows are judged as by the first call.
+fn finish(session: &mut Session) -> Result<(), Unaccepted> {
+    if let Err(error) = session.finish() {
+        return Err(ended(session, error));
+    }
+    session.intake.open_calls().map_err(Unaccepted::Unfinished)
+}
+
+fn read_export(rt: &HostRuntime, session: &mut Session) -> io::Result<Result<(), Unaccepted>> {
     let mut input = rt.stdin();
     let mut buf = [0u8; 4096];
     for _ in 0..u64::MAX {
@@ -31,18 +38,11 @@ fn read_export(rt: &HostRuntime, session: &mut Session) -> io::Result<Outcome> {
         if n == 0 {
             break;
         }
-        if let Err(error) = push_all(session, &buf[0..n]) {
-            return Ok(ended(session, error));
+        if let Err(error) = push_all(session, &buf[..n]) {
+            return Ok(Err(ended(session, error)));
         }
     }
-    if let Err(error) = session.finish() {
-        return Ok(ended(session, error));
-    }
-    match (session.intake.reader.stage, session.intake.export.check()) {
-        (Stage::Calls, _) => Ok(Outcome::Accepted),
-        (_, Ok(())) => Ok(Outcome::Accepted),
-        (_, Err(why)) => Ok(Outcome::Unfinished(why)),
-    }
+    Ok(finish(session))
 }
 
 fn main(rt: HostRuntime) -> io::Result<()> {

@@ -1,5 +1,6 @@
 -- What each line makes of an export that is being read.
 use Rattle.std.specs.Prelude.{◌≡◌, ℕ, ◌+◌, min, Bool, true, false, List, [], ◌∷◌, ◌++◌, Some, None, Ok, Err, vec_items, Option, Result}
+use Rattle.std.specs.Result.{result_err}
 use Rattle.digits.specs.Digits.{bytes_in}
 use Rattle.exports.specs.Check.{verdict}
 use Rattle.exports.specs.Limits.{module_refusal, import_refusal, entry_refusal, listed_refusal}
@@ -41,13 +42,9 @@ first_read = record {
 abbrev pub id_in : List ℕ → List ℕ
 id_in digits = elim (bytes_in digits) [ Some bytes ↦ bytes | None ↦ [] ]
 
-abbrev pub refused_by : Result (Unit {0}) Refusal → Option Refusal
-refused_by (Ok x) = None
-refused_by (Err why) = Some why
-
 -- the first call finds the tables finished, and is refused as they are
 abbrev pub opening : Read → Option Refusal
-opening s = elim s.reader.stage [ Start ↦ refused_by (verdict s.panel) | Tables ↦ refused_by (verdict s.panel) | Calls ↦ None ]
+opening s = elim s.reader.stage [ Start ↦ result_err (verdict s.panel) | Tables ↦ result_err (verdict s.panel) | Calls ↦ None ]
 
 -- why a frame is refused, past its reading
 abbrev pub refusal_of : Said → Read → Option Refusal

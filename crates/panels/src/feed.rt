@@ -22,13 +22,7 @@ impl Intake {
             heap,
             reader: Reader::new(),
             export: Export::new(heap, options),
-            calls: CallCounts {
-                link: 0,
-                unlink: 0,
-                include: 0,
-                exclude: 0,
-                draw: 0,
-            },
+            calls: CallCounts::default(),
         }
     }
 
@@ -38,15 +32,9 @@ impl Intake {
         ensures after { read_of self.new ≡ (if is_ok result then line_after (read_of self.old) line.now else read_of self.old) }
     {
         let mut reader = self.reader;
-        match reader.read(line) {
-            Err(why) => Err(BuildError::Refused(why)),
-            Ok(frame) => {
-                let answer = self.take(frame);
-                if answer.is_ok() {
-                    self.reader = reader;
-                }
-                answer
-            }
-        }
+        let frame = reader.read(line)?;
+        self.take(frame)?;
+        self.reader = reader;
+        Ok(())
     }
 }

@@ -20,6 +20,7 @@ impl LineBuffer {
         self.hold(byte);
     }
 
+    // Apart from `push`, so that a wrong byte there is refused for the promise.
     fn hold(&mut self, byte: u8)
         ensures { (line : List ℕ) → Holds line self.old → Holds (line ++ byte ∷ []) self.new }
     {

@@ -12,8 +12,8 @@ pub enum Call {
     Draw,
 }
 
-// How often each call came; a count stays at its largest value.
-#[derive(Clone, Copy)]
+// How often each call came; a count stays at its largest value. A field for each, since the report names each.
+#[derive(Clone, Copy, Default)]
 pub struct CallCounts {
     pub link: u32,
     pub unlink: u32,

@@ -1,4 +1,5 @@
 ghost use Rattle.std.specs.Prelude.{◌≡◌, is_ok, if◌then◌else◌};
+ghost use Rattle.std.specs.Result.{result_err};
 ghost use Rattle.frames.specs.Text.{said, a_module};
 ghost use Rattle.panels.specs.Reads.{read_of, refusal_of, opening, with_frame, with_call, counted, Answer};
 
@@ -61,33 +62,30 @@ impl Intake {
         ensures answer { Answer (refusal_of (a_module flags exec_order id_digits.now 14) (read_of self.old)) result }
         ensures after { read_of self.new ≡ (if is_ok result then with_frame (a_module flags exec_order id_digits.now 14) self.old.reader (read_of self.old) else read_of self.old) }
     {
-        let Ok(decoded) = decode(self.heap, id_digits) else {
-            return Err(BuildError::OutOfMemory);
+        let decoded = decode(self.heap, id_digits)?;
+        let id: &[u8] = match &decoded {
+            Some(id) => id.as_slice(),
+            None => &[],
         };
-        match decoded {
-            Some(id) => self.export.add_module(flags, exec_order, id.as_slice()),
-            None => self.export.add_module(flags, exec_order, &[]),
-        }
+        self.export.add_module(flags, exec_order, id)
     }
 
     fn take_call(&mut self, call: Call) -> Result<(), BuildError>
         ensures answer { Answer (opening (read_of self.old)) result }
         ensures after { read_of self.new ≡ (if is_ok result then with_call call (read_of self.old) else read_of self.old) }
     {
-        if let Some(why) = self.opening_refusal() {
-            return Err(BuildError::Refused(why));
-        }
+        self.open_calls()?;
         self.calls.count(call);
         Ok(())
     }
 
-    // The first call finds the tables finished, and is refused as they are.
-    fn opening_refusal(&self) -> Option<Refusal>
-        ensures { result ≡ opening (read_of self.now) }
+    // Whether a call may come: the first finds the tables finished, and is refused as they are.
+    pub fn open_calls(&self) -> Result<(), Refusal>
+        ensures { result_err result ≡ opening (read_of self.now) }
     {
         match self.reader.stage {
-            Stage::Calls => None,
-            Stage::Start | Stage::Tables => self.export.check().err(),
+            Stage::Calls => Ok(()),
+            Stage::Start | Stage::Tables => self.export.check(),
         }
     }
 }

@@ -1,106 +1,115 @@
 // A table's modules, entries and listed modules, line by line.
-use crate::words::{Quoted, entry_word, import_word, wrap_word};
+use crate::words::Quoted;
 use std::fmt;
 use tables::included::Included;
 use tables::index::ModuleIdx;
+use tables::module::{ImportRecord, Module};
 use tables::table::Table;
 
 // A module's number and id.
-pub(crate) fn write_name<W: fmt::Write>(
-    f: &mut fmt::Formatter<W>,
-    table: &Table,
-    m: ModuleIdx,
-) -> fmt::Result {
-    let number = m.0;
-    let id = Quoted(table.id(m));
-    write!(f, "{number} {id}")
+#[derive(Clone, Copy)]
+pub(crate) struct Named<'a>(pub &'a Table, pub ModuleIdx);
+
+impl fmt::Display for Named<'_> {
+    fn fmt<W: fmt::Write>(&self, f: &mut fmt::Formatter<W>) -> fmt::Result {
+        let number = self.1.0;
+        let id = Quoted(self.0.id(self.1));
+        write!(f, "{number} {id}")
+    }
 }
 
-fn write_records<W: fmt::Write>(
-    f: &mut fmt::Formatter<W>,
-    table: &Table,
-    m: ModuleIdx,
-) -> fmt::Result {
-    for (r, record) in table.import_records(m).iter().enumerate() {
-        let kind = import_word(record.kind);
-        write!(f, "      record {r}: {kind}")?;
-        match record.resolved_module {
-            Some(target) => {
-                write!(f, " of module ")?;
-                write_name(f, table, target)?;
+// What a record resolves to.
+#[derive(Clone, Copy)]
+struct Target<'a>(&'a Table, &'a ImportRecord);
+
+impl fmt::Display for Target<'_> {
+    fn fmt<W: fmt::Write>(&self, f: &mut fmt::Formatter<W>) -> fmt::Result {
+        match self.1.resolved_module {
+            Some(m) => {
+                let name = Named(self.0, m);
+                write!(f, "module {name}")
             }
-            None => write!(f, " of nothing in the table")?,
-        }
-        writeln!(f)?;
-    }
-    Ok(())
-}
-
-fn write_module<W: fmt::Write>(
-    f: &mut fmt::Formatter<W>,
-    table: &Table,
-    included: &Included,
-    m: ModuleIdx,
-) -> fmt::Result {
-    write!(f, "  module ")?;
-    write_name(f, table, m)?;
-    let kind = if table.is_external(m) {
-        "external"
-    } else {
-        "normal"
-    };
-    let marked = if included.contains(m) {
-        "included"
-    } else {
-        "not included"
-    };
-    let wrap = wrap_word(table.wrap_kind(m));
-    let order = table.exec_order(m);
-    write!(f, ": {kind}, {marked}, {wrap}, execution order {order}")?;
-    if table.is_json(m) {
-        write!(f, ", JSON")?;
-    }
-    if table.is_order_sensitive(m) {
-        write!(f, ", order-sensitive")?;
-    }
-    writeln!(f)?;
-    write_records(f, table, m)
-}
-
-pub(crate) fn write_modules<W: fmt::Write>(
-    f: &mut fmt::Formatter<W>,
-    table: &Table,
-    included: &Included,
-) -> fmt::Result {
-    writeln!(f, "\nModules")?;
-    for i in 0..table.modules.len() {
-        if i < 65536 {
-            write_module(f, table, included, ModuleIdx(i as u16))?;
+            None => write!(f, "nothing in the table"),
         }
     }
-    Ok(())
 }
 
-pub(crate) fn write_entries<W: fmt::Write>(
-    f: &mut fmt::Formatter<W>,
-    table: &Table,
-) -> fmt::Result {
-    writeln!(f, "\nEntries")?;
-    for (e, entry) in table.entries().iter().enumerate() {
-        write!(f, "  entry {e}: module ")?;
-        write_name(f, table, entry.module)?;
-        let kind = entry_word(entry.kind);
-        writeln!(f, ", {kind}")?;
+// What an export says of a module beside its id and its records.
+#[derive(Clone, Copy)]
+struct Traits<'a>(&'a Module, bool);
+
+impl fmt::Display for Traits<'_> {
+    fn fmt<W: fmt::Write>(&self, f: &mut fmt::Formatter<W>) -> fmt::Result {
+        let module = self.0;
+        let kind = if module.external {
+            "external"
+        } else {
+            "normal"
+        };
+        let marked = if self.1 { "included" } else { "not included" };
+        let wrap = module.wrap_kind;
+        let order = module.exec_order;
+        write!(f, "{kind}, {marked}, {wrap}, execution order {order}")?;
+        if module.json {
+            write!(f, ", JSON")?;
+        }
+        if module.order_sensitive {
+            write!(f, ", order-sensitive")?;
+        }
+        Ok(())
     }
-    Ok(())
 }
 
-pub(crate) fn write_listed<W: fmt::Write>(f: &mut fmt::Formatter<W>, table: &Table) -> fmt::Result {
-    writeln!(f, "\nListed modules, in order")?;
-    for m in table.listed() {
-        write!(f, "  module ")?;
-        write_name(f, table, *m)?;
-        writeln!(f)?;
+// All modules of an export, with their records.
+#[derive(Clone, Copy)]
+pub(crate) struct Modules<'a> {
+    pub table: &'a Table,
+    pub included: &'a Included,
+}
+
+impl fmt::Display for Modules<'_> {
+    fn fmt<W: fmt::Write>(&self, f: &mut fmt::Formatter<W>) -> fmt::Result {
+        writeln!(f, "\nModules")?;
+        for (i, module) in (0..u16::MAX).zip(&self.table.modules) {
+            let m = ModuleIdx(i);
+            let name = Named(self.table, m);
+            let traits = Traits(module, self.included.contains(m));
+            writeln!(f, "  module {name}: {traits}")?;
+            for (r, record) in module.import_records.iter().enumerate() {
+                let kind = record.kind;
+                let target = Target(self.table, record);
+                writeln!(f, "      record {r}: {kind} of {target}")?;
+            }
+        }
+        Ok(())
     }
-    Ok(())
+}
+
+#[derive(Clone, Copy)]
+pub(crate) struct Entries<'a>(pub &'a Table);
+
+impl fmt::Display for Entries<'_> {
+    fn fmt<W: fmt::Write>(&self, f: &mut fmt::Formatter<W>) -> fmt::Result {
+        writeln!(f, "\nEntries")?;
+        for (e, entry) in self.0.entries().iter().enumerate() {
+            let name = Named(self.0, entry.module);
+            let kind = entry.kind;
+            writeln!(f, "  entry {e}: module {name}, {kind}")?;
+        }
+        Ok(())
+    }
+}
+
+#[derive(Clone, Copy)]
+pub(crate) struct Listed<'a>(pub &'a Table);
+
+impl fmt::Display for Listed<'_> {
+    fn fmt<W: fmt::Write>(&self, f: &mut fmt::Formatter<W>) -> fmt::Result {
+        writeln!(f, "\nListed modules, in order")?;
+        for m in self.0.listed() {
+            let name = Named(self.0, *m);
+            writeln!(f, "  module {name}")?;
+        }
+        Ok(())
+    }
 }
