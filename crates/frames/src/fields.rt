@@ -15,6 +15,7 @@ const NO_MODULE: u16 = 65535;
 // The digits before a module's id, which is handed out as digits.
 const ID_PLACE: usize = 14;
 
+// The readers that ask for a length are called where the letter tells it.
 impl<'a> Line<'a> {
     // The frame, by its letter.
     pub(crate) fn fields(&self) -> Result<Frame<'a>, Refusal>

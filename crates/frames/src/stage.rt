@@ -1,4 +1,4 @@
-// Where a reader stands: at the start, among tables or among calls. A reader also knows whether a module has come.
+// Where a reader stands: at the start, among tables or among calls. A reader also knows whether a module has come: no stage of its own, since it would take every letter that `Tables` takes.
 #[derive(Clone, Copy)]
 pub enum Stage {
     Start,

@@ -15,6 +15,7 @@ fn ended(session: &Session, error: BuildError) -> Unaccepted {
     }
 }
 
+// Bytes as they are read; the tests of reading push a whole text, and use no program.
 fn push_all(session: &mut Session, bytes: &[u8]) -> Result<(), BuildError> {
     for b in bytes {
         session.push(*b)?;

@@ -15,7 +15,7 @@ pub(crate) enum Shape {
     Blocks,
 }
 
-// A panel of so many modules, all included, with an entry on each eighth.
+// A panel of so many modules, all included, with an entry on each eighth. The tests of plans make their own, since neither uses the other.
 pub(crate) fn panel(heap: Global, modules: u16) -> Result<Export, BuildError> {
     let options = Options {
         code_splitting: true,

@@ -24,7 +24,7 @@ pub struct Rejected<S> {
     pub store: S,
 }
 
-// An edit to make.
+// An edit to make: beside the edits of a store those of marks, which no store knows.
 #[derive(Clone, Copy)]
 pub enum Edit {
     Link(ModuleIdx, ModuleIdx),

@@ -64,6 +64,7 @@ impl PlanData {
         ensures { (m e : ℕ) → m < count (panel_in self.now) → S.DependencyStore.loads store.now m d.0 ≡ true → sets_in self.now m e ≡ true → member result e ≡ true }
     {
         let mut found = EntrySet::empty();
+        // by `as`, since that a number fits is proved, and `try_from` would add a case
         for (m, set) in self.sets.sets.iter().enumerate() {
             if store.has(ModuleIdx(m as u16), d) {
                 found.unite(*set);

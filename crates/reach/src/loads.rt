@@ -69,6 +69,7 @@ impl<S: DependencyStore> Arcs for Loads<'_, '_, S> {
         if node >= count || at >= count {
             return None;
         }
+        // by `as`, since that the numbers fit is proved, and `try_from` would add a case
         let m = ModuleIdx(node as u16);
         // The store hands out its modules from a number on, so the cursor is moved by hand.
         let mut from = at as u16;

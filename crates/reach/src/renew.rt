@@ -82,6 +82,7 @@ impl PlanData {
             ..
         } = self;
         moved.clear();
+        // by `as`, since that a number fits is proved, and `try_from` would add a case
         for (y, set) in sets.sets.iter().enumerate() {
             if !earlier.get(y).equals(set) {
                 moved.push_reserved(ModuleIdx(y as u16));

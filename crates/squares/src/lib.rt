@@ -16,6 +16,7 @@ pub struct Square;
 
 pub type SquareStore<'a> = LentStore<'a, Square>;
 
+// A bit of a row's words; the row is no set of entries.
 fn is_set(row: &[u64], d: usize) -> bool
     ensures { result ≡ bits_in row.now d }
 {
@@ -38,6 +39,7 @@ fn first_set(row: &[u64], from: usize, size: usize) -> Option<usize>
     None
 }
 
+// `set` and `clear` are two, since they leave other things.
 fn set(row: &mut [u64], d: usize)
     requires { d / 64 < length row.old }
     ensures { (b : ℕ) → bits_in row.new b ≡ with_number true (bits_in row.old) d b }
@@ -75,6 +77,7 @@ impl Layout for Square {
 
     fn next(row: &[u64], size: usize, from: ModuleIdx) -> Option<ModuleIdx> {
         let d = first_set(row, usize::from(from), size)?;
+        // by `as`, since that it fits is proved, and `try_from` would add a case
         Some(ModuleIdx(d as u16))
     }
 

@@ -65,7 +65,7 @@ impl<'a, L: Layout> LentStore<'a, L> {
         LentStore { size, memory }
     }
 
-    // Where the row of `m` begins.
+    // Where the row of `m` begins. It and the next ask for a module's number, which the calls have tested.
     fn start(&self, m: ModuleIdx) -> usize
         requires { m.0 < self.now.size }
         ensures { result ≡ L.MEMORY_PER_MODULE * m.0 }
