@@ -4,7 +4,7 @@
 ghost use Rattle.std.specs.Prelude.{◌≡◌, ℕ, ◌<◌, ◌≤◌, refl, slice_index, MatchOption};
 ghost use Rattle.std.proofs.Common.{lit≤};
 ghost use Rattle.stores.specs.Cells.{IsRow};
-ghost use Rattle.stores.specs.Pairs.{below, Smallest, NoneFrom};
+ghost use Rattle.stores.specs.Pairs.{below, degree, Smallest, NoneFrom};
 ghost use Rattle.rows.specs.Rows.{ascending, listed, Parts, blank_ascends, blank_lists};
 
 use stores::layout::Layout;
@@ -38,6 +38,15 @@ fn first(row: &[u16], size: usize, from: u16) -> Option<u16>
     if usize::from(d) < size { Some(d) } else { None }
 }
 
+// How many modules below `size` the row lists.
+fn listed_below(row: &[u16], size: usize) -> usize
+    requires row { IsRow 65 ascending row.now }
+    requires small { size ≤ 512 }
+    ensures { result ≡ degree (listed row.now) size }
+{
+    place(row, size as u16)
+}
+
 impl Layout for Row {
     type Cell = u16;
 
@@ -64,7 +73,7 @@ impl Layout for Row {
     }
 
     fn count(row: &[u16], size: usize) -> usize {
-        place(row, size as u16)
+        listed_below(row, size)
     }
 
     fn put(row: &mut [u16], d: ModuleIdx) {

@@ -3,7 +3,7 @@
 
 ghost use Rattle.std.specs.Prelude.{◌≡◌, ℕ, ◌/◌, ◌<◌, true, false, length, refl, MatchOption};
 ghost use Rattle.std.proofs.Common.{lit≤};
-ghost use Rattle.stores.specs.Pairs.{below, with_number, Smallest, NoneFrom};
+ghost use Rattle.stores.specs.Pairs.{below, degree, with_number, Smallest, NoneFrom};
 ghost use Rattle.squares.specs.Square.{bits_in, no_bits};
 
 use stores::layout::Layout;
@@ -54,6 +54,13 @@ fn clear(row: &mut [u64], d: usize)
     row[d / 64] &= !(1 << (d % 64));
 }
 
+// How many bits below `size` are set.
+fn set_below(row: &[u64], size: usize) -> usize
+    ensures { result ≡ degree (bits_in row.now) size }
+{
+    (0..size).filter(|d| is_set(row, *d)).count()
+}
+
 impl Layout for Square {
     type Cell = u64;
 
@@ -82,7 +89,7 @@ impl Layout for Square {
     }
 
     fn count(row: &[u64], size: usize) -> usize {
-        (0..size).filter(|d| is_set(row, *d)).count()
+        set_below(row, size)
     }
 
     fn put(row: &mut [u64], d: ModuleIdx) {

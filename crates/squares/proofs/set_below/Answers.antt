@@ -5,7 +5,7 @@ use Rattle.std.proofs.lemmas.List.Sums.{length-filter}
 use Rattle.std.specs.List.{range_with_len}
 use Rattle.squares.specs.Square.{bits_in}
 use Rattle.squares.proofs.Bits.{degree_counted}
-use Rattle.squares.proofs.SquareLayout.count.Goals as goal
+use Rattle.squares.proofs.set_below.Goals as goal
 
 pub returns : goal.returns
 returns c =
