@@ -23,6 +23,12 @@ module _ {A B C : Type 0} (f : A → B → C) where
   none_both (Some b) = refl
   none_both None = refl
 
+-- an odd number of digits writes no bytes
+pub odd_none : (bs : List ℕ) → length bs % 2 ≡ 1 → bytes_in bs ≡ None
+odd_none [] h = absurd (omega arith)
+odd_none (a ∷ []) h = refl
+odd_none (a ∷ (b ∷ rest)) h = ap (both (λ byte bytes. byte ∷ bytes) (byte_of a b)) (odd_none rest (omega arith)) ∙ both_none (λ byte bytes. byte ∷ bytes) (byte_of a b)
+
 -- the bytes of a line with at least two digits: the first, and those of the rest
 abbrev First : ℕ → ℕ → List ℕ → List ℕ → Type 0
 First a b rest bytes = (x : ℕ) × (xs : List ℕ) × (byte_of a b ≡ Some x) × (bytes_in rest ≡ Some xs) × (bytes ≡ x ∷ xs)

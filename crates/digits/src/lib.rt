@@ -1,7 +1,7 @@
 // Upper-case hexadecimal: reading digits as numbers and bytes, and laying a number's digits. It uses no other crate.
 #![tactic(auto)]
 
-ghost use Rattle.std.specs.Prelude.{◌≡◌, ◌+◌, ◌*◌, ◌/◌, ◌%◌, ◌^◌, ◌<◌, ◌≤◌, leb, length, IfOk, if◌then◌else◌, Some, None, vec_items, is_ok, nat_le};
+ghost use Rattle.std.specs.Prelude.{◌≡◌, ◌+◌, ◌*◌, ◌/◌, ◌%◌, ◌^◌, ◌<◌, ◌≤◌, leb, length, IfOk, if◌then◌else◌, Ok, Some, None, vec_items, is_ok, nat_le};
 ghost use Rattle.std.specs.Option.{option_map};
 ghost use Rattle.digits.specs.Digits.{value_of, digit_of, number_in, byte_of, bytes_in, digits};
 ghost use Rattle.digits.specs.Lay.{laid};
@@ -34,10 +34,15 @@ pub fn number(text: &[u8]) -> Option<u64>
     Some(value)
 }
 
-// The bytes that digits write, two digits a byte; none where one is no digit or one is left over.
+#[tactic(auto, using(crate::proofs::Bytes::odd_none))]
+// The bytes that digits write, two digits a byte; none where one is no digit or one is left over, of which the second takes no memory.
 pub fn decode(heap: Global, text: &[u8]) -> Result<Option<Vec<u8>>, AllocError>
-    ensures { IfOk result (λ o. option_map vec_items o ≡ bytes_in text.now) }
+    ensures bytes { IfOk result (λ o. option_map vec_items o ≡ bytes_in text.now) }
+    ensures odd { length text.now % 2 ≡ 1 → result ≡ Ok None }
 {
+    if text.len() % 2 != 0 {
+        return Ok(None);
+    }
     let mut bytes = Vec::new(heap);
     let mut rest = text;
     while let [high, low, after @ ..] = rest {
@@ -47,11 +52,7 @@ pub fn decode(heap: Global, text: &[u8]) -> Result<Option<Vec<u8>>, AllocError>
         bytes.push(byte)?;
         rest = after;
     }
-    if rest.is_empty() {
-        Ok(Some(bytes))
-    } else {
-        Ok(None)
-    }
+    Ok(Some(bytes))
 }
 
 // The byte that two digits write.
