@@ -15,13 +15,19 @@ pub fn read_frame(line: &[u8]) -> Result<Frame<'_>, Refusal>
     ensures frame { viewed result ≡ frame_of line.now }
     ensures spelled { Reads line.now (viewed result) }
 {
-    read_any(line)
+    read_spelled(line)
 }
 
-// Apart from `read_frame`, so that a wrong answer there is refused for the promise.
-fn read_any(text: &[u8]) -> Result<Frame<'_>, Refusal>
+// Apart from `read_frame`, and `read_any` from it, so that a wrong answer of either is refused for the promise.
+fn read_spelled(text: &[u8]) -> Result<Frame<'_>, Refusal>
     ensures frame { viewed result ≡ frame_of text.now }
     ensures spelled { Reads text.now (viewed result) }
+{
+    read_any(text)
+}
+
+fn read_any(text: &[u8]) -> Result<Frame<'_>, Refusal>
+    ensures { viewed result ≡ frame_of text.now }
 {
     Line::new(text)?.fields()
 }
