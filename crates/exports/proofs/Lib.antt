@@ -1,4 +1,6 @@
+pub mod Views
+pub mod Adds
+pub mod Refused
 pub mod Below
-pub mod Records
 pub mod Checks
 pub mod Judging

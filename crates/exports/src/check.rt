@@ -32,13 +32,13 @@ pub(crate) fn judge(table: &Table) -> Result<(), Refusal>
 
 // Whether some number in the table is of no module.
 fn names_beyond(table: &Table) -> bool
-    ensures { result ≡ some_beyond (length table.now.modules.items) table.now.options table.now.entries.items table.now.listed.items table.now.modules.items }
+    ensures { result ≡ some_beyond (length table.now.modules.items) table.now.options table.now.entries.items table.now.listed.items table.now.records.items }
 {
     let count = table.modules.len();
     table.options.runtime_module.is_beyond(count)
         || any_beyond(count, &table.entries)
         || any_beyond(count, &table.listed)
-        || any_beyond(count, &table.modules)
+        || any_beyond(count, &table.records)
 }
 
 // Whether some entry is of a module.

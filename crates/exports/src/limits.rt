@@ -1,8 +1,7 @@
 ghost use Rattle.std.specs.Prelude.{◌≡◌, cond, length, Some, None, nat_lt};
 ghost use Rattle.std.specs.Result.{result_err};
 ghost use Rattle.tables.specs.declared.refusal.Refusal.TheVariants.{Limit};
-ghost use Rattle.tables.specs.View.{panel_of};
-ghost use Rattle.exports.specs.Limits.{module_refusal, import_refusal, import_room};
+ghost use Rattle.exports.specs.Limits.{module_room, import_room};
 
 use tables::refusal::Refusal;
 use tables::table::Table;
@@ -32,10 +31,10 @@ pub(crate) fn room_below(limit: usize, count: usize) -> Result<(), Refusal>
 
 // Whether one module more, with this id, keeps the limits.
 pub(crate) fn room_for_module(table: &Table, id: &[u8]) -> Result<(), Refusal>
-    ensures { result_err result ≡ module_refusal (panel_of table.now) id.now }
+    ensures { result_err result ≡ module_room (length table.now.modules.items) (length table.now.ids.items) (length id.now) }
 {
     let len = id.len();
-    if len < 1 || len > ID_LIMIT || table.id_bytes > ID_BYTES_LIMIT - len {
+    if len < 1 || len > ID_LIMIT || table.ids.len() > ID_BYTES_LIMIT - len {
         return Err(Refusal::Limit);
     }
     room_below(MODULE_LIMIT, table.len())
@@ -43,11 +42,10 @@ pub(crate) fn room_for_module(table: &Table, id: &[u8]) -> Result<(), Refusal>
 
 // Whether one record more, of the latest module, keeps the limits.
 pub(crate) fn room_for_record(table: &Table) -> Result<(), Refusal>
-    ensures counts { result_err result ≡ import_room (length table.now.modules.items) table.now.record_count }
-    ensures panel { result_err result ≡ import_refusal (panel_of table.now) }
+    ensures { result_err result ≡ import_room (length table.now.modules.items) (length table.now.records.items) }
 {
     if table.modules.is_empty() {
         return Err(Refusal::OutOfStage);
     }
-    room_below(IMPORT_RECORD_LIMIT, table.record_count)
+    room_below(IMPORT_RECORD_LIMIT, table.records.len())
 }

@@ -1,9 +1,9 @@
-ghost use Rattle.std.specs.Prelude.{◌≡◌, ℕ, Bool, nat_le, vec_items};
+ghost use Rattle.std.specs.Prelude.{◌≡◌, ℕ, Bool, nat_le};
 ghost use Rattle.std.specs.List.{list_any};
 ghost use Rattle.exports.specs.Beyond.{resolves_beyond};
 
 use tables::index::ModuleIdx;
-use tables::module::{EntryPoint, ImportRecord, Module};
+use tables::module::{EntryPoint, ImportRecord};
 
 // What names a module, or may name one.
 pub(crate) trait NamesModule {
@@ -35,15 +35,6 @@ impl NamesModule for ImportRecord {
 
     fn is_beyond(&self, count: usize) -> bool {
         self.resolved_module.is_some_and(|m| m.is_beyond(count))
-    }
-}
-
-// A module names those that its records resolve to.
-impl NamesModule for Module {
-    ghost beyond = { λ count m. list_any (resolves_beyond count) (vec_items m.import_records) };
-
-    fn is_beyond(&self, count: usize) -> bool {
-        any_beyond(count, &self.import_records)
     }
 }
 

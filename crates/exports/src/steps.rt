@@ -26,8 +26,8 @@ impl Export {
             table: Table {
                 options,
                 modules: Vec::new(heap),
-                id_bytes: 0,
-                record_count: 0,
+                ids: Vec::new(heap),
+                records: Vec::new(heap),
                 entries: Vec::new(heap),
                 listed: Vec::new(heap),
             },
@@ -38,6 +38,7 @@ impl Export {
     }
 
     // One module more, without records.
+    #[tactic(auto, using(crate::proofs::Refused::module_refusal_is))]
     pub fn add_module(
         &mut self,
         flags: ModuleFlags,
@@ -55,6 +56,7 @@ impl Export {
     }
 
     // One record more of the latest module.
+    #[tactic(auto, using(crate::proofs::Refused::import_refusal_is))]
     pub fn add_import_record(&mut self, record: ImportRecord) -> Result<(), BuildError>
         ensures panel { Answered (import_refusal (panel_of self.old.table)) (panel_of self.old.table) (with_import (import_of «record») (panel_of self.old.table)) result (panel_of self.new.table) }
         ensures marks { self.new.included ≡ self.old.included }

@@ -6,4 +6,4 @@ use Rattle.tables.specs.View.{panel_of, module_of}
 use Rattle.tables.specs.declared.table.Table.{Table}
 
 pub count_is : (t : Table) → count (panel_of t) ≡ length (vec_items t.modules)
-count_is t = length-map (vec_items t.modules) module_of
+count_is t = length-map (vec_items t.modules) (module_of (vec_items t.ids) (vec_items t.records))

@@ -3,7 +3,7 @@ use crate::words::Quoted;
 use std::fmt;
 use tables::included::Included;
 use tables::index::ModuleIdx;
-use tables::module::{ImportRecord, Module};
+use tables::module::ImportRecord;
 use tables::table::Table;
 
 // A module's number and id.
@@ -36,24 +36,25 @@ impl fmt::Display for Target<'_> {
 
 // What an export says of a module beside its id and its records.
 #[derive(Clone, Copy)]
-struct Traits<'a>(&'a Module, bool);
+struct Traits<'a>(&'a Table, ModuleIdx, bool);
 
 impl fmt::Display for Traits<'_> {
     fn fmt<W: fmt::Write>(&self, f: &mut fmt::Formatter<W>) -> fmt::Result {
-        let module = self.0;
-        let kind = if module.external {
+        let table = self.0;
+        let m = self.1;
+        let kind = if table.is_external(m) {
             "external"
         } else {
             "normal"
         };
-        let marked = if self.1 { "included" } else { "not included" };
-        let wrap = module.wrap_kind;
-        let order = module.exec_order;
+        let marked = if self.2 { "included" } else { "not included" };
+        let wrap = table.wrap_kind(m);
+        let order = table.exec_order(m);
         write!(f, "{kind}, {marked}, {wrap}, execution order {order}")?;
-        if module.json {
+        if table.is_json(m) {
             write!(f, ", JSON")?;
         }
-        if module.order_sensitive {
+        if table.is_order_sensitive(m) {
             write!(f, ", order-sensitive")?;
         }
         Ok(())
@@ -70,12 +71,12 @@ pub(crate) struct Modules<'a> {
 impl fmt::Display for Modules<'_> {
     fn fmt<W: fmt::Write>(&self, f: &mut fmt::Formatter<W>) -> fmt::Result {
         writeln!(f, "\nModules")?;
-        for (i, module) in (0..u16::MAX).zip(&self.table.modules) {
+        for (i, _) in (0..u16::MAX).zip(&self.table.modules) {
             let m = ModuleIdx(i);
             let name = Named(self.table, m);
-            let traits = Traits(module, self.included.contains(m));
+            let traits = Traits(self.table, m, self.included.contains(m));
             writeln!(f, "  module {name}: {traits}")?;
-            for (r, record) in module.import_records.iter().enumerate() {
+            for (r, record) in self.table.import_records(m).iter().enumerate() {
                 let kind = record.kind;
                 let target = Target(self.table, record);
                 writeln!(f, "      record {r}: {kind} of {target}")?;

@@ -31,7 +31,7 @@ impl fmt::Display for Summary<'_> {
     fn fmt<W: fmt::Write>(&self, f: &mut fmt::Formatter<W>) -> fmt::Result {
         let table = self.0;
         let modules = Counted(table.len(), "module", "modules");
-        let records = Counted(table.record_count, "import record", "import records");
+        let records = Counted(table.records.len(), "import record", "import records");
         let entries = Counted(table.entries.len(), "entry", "entries");
         let listed = Counted(table.listed.len(), "listed module", "listed modules");
         writeln!(f, "  {modules}, {records}, {entries}, {listed}")?;

@@ -1,6 +1,6 @@
 pub mod Kinds
 pub mod Refusals
 pub mod Panel
-pub mod Totals
+pub mod Spans
 pub mod View
 pub mod Graph

@@ -12,6 +12,7 @@ use Rattle.tables.specs.declared.module.ChunkModulesOrderBy.TheVariants.{ExecOrd
 use Rattle.tables.specs.declared.module.Options.{Options}
 use Rattle.tables.specs.declared.table.Table.{Table}
 use Rattle.tables.specs.Panel.{Panel, PanelModule, PanelImport, PanelEntry}
+use Rattle.tables.specs.Spans.{cut}
 
 abbrev pub is_static : ImportKind → Bool
 is_static Import = true
@@ -30,20 +31,21 @@ abbrev pub is_by_id : ChunkModulesOrderBy → Bool
 is_by_id ModuleId = true
 is_by_id ExecOrder = false
 
-abbrev pub module_of : Module → PanelModule
-module_of m = record {
+-- a module, with its id and its records cut from those of all modules
+abbrev pub module_of : List ℕ → List ImportRecord → Module → PanelModule
+module_of ids records m = record {
   external = m.external;
   json = m.json;
   sensitive = m.order_sensitive;
   wrap = m.wrap_kind;
   order = m.exec_order;
-  ident = vec_items m.id;
-  imports = map import_of (vec_items m.import_records);
+  ident = cut ids m.id;
+  imports = map import_of (cut records m.import_records);
 }
 
-abbrev pub panel_from : Options → List Module → List EntryPoint → List ModuleIdx → Panel
-panel_from options modules entries listed = record {
-  modules = map module_of modules;
+abbrev pub panel_from : Options → List Module → List ℕ → List ImportRecord → List EntryPoint → List ModuleIdx → Panel
+panel_from options modules ids records entries listed = record {
+  modules = map (module_of ids records) modules;
   entries = map entry_of entries;
   listed = map number listed;
   runtime = options.runtime_module.0;
@@ -52,4 +54,4 @@ panel_from options modules entries listed = record {
 }
 
 abbrev pub panel_of : Table → Panel
-panel_of t = panel_from t.options (vec_items t.modules) (vec_items t.entries) (vec_items t.listed)
+panel_of t = panel_from t.options (vec_items t.modules) (vec_items t.ids) (vec_items t.records) (vec_items t.entries) (vec_items t.listed)

@@ -40,15 +40,22 @@ pub struct ModuleFlags {
     pub wrap_kind: WrapKind,
 }
 
-#[derive(Drop)]
+// The elements from `start` on and before `end` of a list that all modules share.
+#[derive(Clone, Copy, Debug, PartialEq, Eq)]
+pub struct Span {
+    pub start: usize,
+    pub end: usize,
+}
+
+#[derive(Clone, Copy, Debug, PartialEq, Eq)]
 pub struct Module {
     pub external: bool,
     pub json: bool,
     pub order_sensitive: bool,
     pub wrap_kind: WrapKind,
     pub exec_order: u32,
-    pub id: Vec<u8>,
-    pub import_records: Vec<ImportRecord>,
+    pub id: Span,
+    pub import_records: Span,
 }
 
 #[derive(Clone, Copy, Debug, PartialEq, Eq)]

@@ -1,9 +1,9 @@
-ghost use Rattle.std.specs.Prelude.{◌≡◌, map, MatchOption};
+ghost use Rattle.std.specs.Prelude.{◌≡◌, ◌≤◌, map, length, IfSome, MatchOption};
 ghost use Rattle.tables.specs.Panel.{count, at, no_module};
 ghost use Rattle.tables.specs.View.{panel_of, module_of, import_of, entry_of, number, is_by_id};
 
 use crate::index::ModuleIdx;
-use crate::module::{EntryPoint, ImportRecord, Module, Options, WrapKind};
+use crate::module::{EntryPoint, ImportRecord, Module, Options, Span, WrapKind};
 use crate::table::Table;
 
 // Each answers plainly of a number that no module has.
@@ -16,7 +16,9 @@ impl Table {
     }
 
     fn module(&self, m: ModuleIdx) -> Option<&Module>
-        ensures { MatchOption result (at (panel_of self.now) m.0 ≡ no_module) (λ r. at (panel_of self.now) m.0 ≡ module_of r.now) }
+        ensures view { MatchOption result (at (panel_of self.now) m.0 ≡ no_module) (λ r. at (panel_of self.now) m.0 ≡ module_of self.now.ids.items self.now.records.items r.now) }
+        ensures id { IfSome result (λ r. (r.now.id.start ≤ r.now.id.end) × (r.now.id.end ≤ length self.now.ids.items)) }
+        ensures records { IfSome result (λ r. (r.now.import_records.start ≤ r.now.import_records.end) × (r.now.import_records.end ≤ length self.now.records.items)) }
     {
         self.modules.get(usize::from(m))
     }
@@ -54,13 +56,25 @@ impl Table {
     pub fn id(&self, m: ModuleIdx) -> &[u8]
         ensures { result.now ≡ (at (panel_of self.now) m.0).ident }
     {
-        self.module(m).map_or(&[], |m| m.id.as_slice())
+        match self.module(m) {
+            Some(module) => {
+                let Span { start, end } = module.id;
+                &self.ids[start..end]
+            }
+            None => &[],
+        }
     }
 
     pub fn import_records(&self, m: ModuleIdx) -> &[ImportRecord]
         ensures { map import_of result.now ≡ (at (panel_of self.now) m.0).imports }
     {
-        self.module(m).map_or(&[], |m| m.import_records.as_slice())
+        match self.module(m) {
+            Some(module) => {
+                let Span { start, end } = module.import_records;
+                &self.records[start..end]
+            }
+            None => &[],
+        }
     }
 
     pub fn entries(&self) -> &[EntryPoint]

@@ -1,23 +1,23 @@
-ghost use Rattle.std.specs.Prelude.{◌≡◌, ◌≤◌, length};
-ghost use Rattle.tables.specs.Totals.{ids_total, records_total};
+ghost use Rattle.std.specs.Prelude.{◌≡◌, ◌≤◌, true, map, length};
+ghost use Rattle.tables.specs.Spans.{tiled};
 
 use crate::index::ModuleIdx;
-use crate::module::{EntryPoint, Module, Options};
+use crate::module::{EntryPoint, ImportRecord, Module, Options};
 
-// All of an export that stays as it was read. Each module has its id and its import records; the totals of both are kept beside them, so that a limit on a total is told at once.
+// All of an export that stays as it was read. Ids and import records of all modules lie one after another, in the order of the modules.
 #[derive(Drop)]
 pub struct Table {
     pub options: Options,
     pub modules: Vec<Module>,
-    pub id_bytes: usize,
-    pub record_count: usize,
+    pub ids: Vec<u8>,
+    pub records: Vec<ImportRecord>,
     pub entries: Vec<EntryPoint>,
     pub listed: Vec<ModuleIdx>,
-    ghost ids_counted: { id_bytes ≡ ids_total modules.items },
-    ghost records_counted: { record_count ≡ records_total modules.items },
-    // the limits are kept
+    // ids and records are tiled by the modules, and the limits are kept
+    ghost ids_tiled: { tiled 0 (map (λ m. m.id) modules.items) (length ids.items) ≡ true },
+    ghost records_tiled: { tiled 0 (map (λ m. m.import_records) modules.items) (length records.items) ≡ true },
     ghost modules_few: { length modules.items ≤ 512 },
-    ghost records_few: { record_count ≤ 8192 },
+    ghost records_few: { length records.items ≤ 8192 },
     ghost entries_few: { length entries.items ≤ 64 },
     ghost listed_few: { length listed.items ≤ 512 },
 }
