@@ -6,6 +6,8 @@ ghost use Rattle.std.proofs.Common.{lit≤};
 ghost use Rattle.stores.specs.Pairs.{below, degree, with_number, Smallest, NoneFrom};
 ghost use Rattle.squares.specs.Square.{bits_in, no_bits};
 
+pub mod laws;
+
 use stores::layout::Layout;
 use stores::lent::LentStore;
 use tables::index::ModuleIdx;
