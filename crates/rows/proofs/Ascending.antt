@@ -1,11 +1,11 @@
 -- What ascending rows list.
-use Rattle.std.proofs.Common.{◌≡◌, ℕ, zero, suc, ◌+◌, ◌<◌, ◌≤◌, Bool, true, false, cond, ◌||◌, eqb, ltb, ◌⊎◌, List, length, get_or, Decides, refl, ◌∙◌, subst, inl, inr, ⊎_elim, arith}
+use Rattle.std.proofs.Common.{◌≡◌, ℕ, zero, suc, ◌+◌, ◌<◌, ◌≤◌, Bool, true, false, cond, ◌||◌, eqb, ltb, ◌⊎◌, List, length, get_or, Decides, refl, sym, ap, ◌∙◌, subst, inl, inr, ⊎_elim, arith}
 use Rattle.std.proofs.lemmas.Bool.{cases_eq, cases_lt, eq-eqb, ne_eqb, cases_Bool, le-ltb, lt-ltb}
 use Rattle.std.proofs.lemmas.Bool.Decides.{nat_tests, same_from_decides, Decides-eqb, Decides-ltb, Decides-and, Decides-or, Decides-like, Decides-by_or, Decides-below_and, Decides-below_or}
 use Rattle.std.proofs.lemmas.List.{get_or_default}
 use Rattle.stores.specs.Pairs.{degree}
 use Rattle.stores.proofs.Written.{degree_cong}
-use Rattle.rows.specs.Rows.{every, follows, ascending, listed, Parts}
+use Rattle.rows.specs.Rows.{every, follows, in_range, ascending, listed, Parts, OfModules, RowsAreOfModules}
 
 abbrev pub After : ℕ → ℕ → Type 0
 After a b = (a < b) ⊎ ((a ≡ 65535) × (b ≡ 65535))
@@ -13,9 +13,27 @@ After a b = (a < b) ⊎ ((a ≡ 65535) × (b ≡ 65535))
 after_decides : (a b : ℕ) → Decides (follows a b) (After a b)
 after_decides a b = Decides-or _ _ (Decides-ltb a b) (Decides-and _ _ (Decides-eqb a 65535) (Decides-eqb b 65535))
 
-pub adjacent : (xs : List ℕ) → Decides (ascending xs) ((i : ℕ) → i < 64 → After (get_or xs i 0) (get_or xs (i + 1) 0))
+abbrev pub Number : ℕ → Type 0
+Number x = (x < 512) ⊎ (x ≡ 65535)
+
+-- what the test of a row says
+pub record Ascends (xs : List ℕ) : Type 0 where
+  pub follow : (i : ℕ) → i < 64 → After (get_or xs i 0) (get_or xs (i + 1) 0)
+  pub number : (i : ℕ) → i < 65 → Number (get_or xs i 0)
+  pub closed : get_or xs 64 0 ≡ 65535
+
+follow_tells : (xs : List ℕ) (n : ℕ) → Decides (every n (λ i. follows (get_or xs i 0) (get_or xs (i + 1) 0))) ((i : ℕ) → i < n → After (get_or xs i 0) (get_or xs (i + 1) 0))
+follow_tells xs n = Decides-below_and (λ i. follows (get_or xs i 0) (get_or xs (i + 1) 0)) (λ i. After (get_or xs i 0) (get_or xs (i + 1) 0)) (λ k. every k (λ i. follows (get_or xs i 0) (get_or xs (i + 1) 0))) (λ i. after_decides _ _) refl (λ _. refl) n
+
+number_tells : (xs : List ℕ) (n : ℕ) → Decides (every n (λ i. in_range (get_or xs i 0))) ((i : ℕ) → i < n → Number (get_or xs i 0))
+number_tells xs n = Decides-below_and (λ i. in_range (get_or xs i 0)) (λ i. Number (get_or xs i 0)) (λ k. every k (λ i. in_range (get_or xs i 0))) (λ i. Decides-or _ _ (Decides-ltb _ 512) (Decides-eqb _ 65535)) refl (λ _. refl) n
+
+pub ascends_tells : (xs : List ℕ) → Decides (ascending xs) (Ascends xs)
 unfolding ascending
-adjacent xs = Decides-below_and (λ i. follows (get_or xs i 0) (get_or xs (i + 1) 0)) (λ i. After (get_or xs i 0) (get_or xs (i + 1) 0)) (λ k. every k (λ i. follows (get_or xs i 0) (get_or xs (i + 1) 0))) (λ i. after_decides _ _) refl (λ _. refl) 64
+ascends_tells xs = Decides-like (ascending xs)
+    (λ w. record { follow = w.0; number = w.1.0; closed = w.1.1 })
+    (λ a. (a.follow, (a.number, a.closed)))
+    (Decides-and _ _ (follow_tells xs 64) (Decides-and _ _ (number_tells xs 65) (Decides-eqb (get_or xs 64 0) 65535)))
 
 after_trans : (a b c : ℕ) → After a b → After b c → After a c
 after_trans a b c h k = ⊎_elim (λ (l : a < b). ⊎_elim (λ (m : b < c). inl (omega arith)) (λ m. inl (omega (arith, m.0, m.1))) k) (λ l. ⊎_elim (λ (m : b < c). inl (omega (arith, l.0, l.1))) (λ m. inr (l.0, m.1)) k) h
@@ -79,6 +97,27 @@ degree_among n x (suc k) small rise =
     let inside : ltb (x k) n ≡ true = lt-ltb (x k) n (small k (omega arith)) in
     grow ∙ rw inside (omega arith)
 
+-- a number that is there adds none
+absorbed : (k : ℕ) (x : ℕ → ℕ) (b : ℕ) → among k x (x k) ≡ true → among (suc k) x b ≡ among k x b
+absorbed k x b there = ⊎_elim
+    (λ (e : x k ≡ b). let t : eqb (x k) b ≡ true = eq-eqb (x k) b e in let m : among k x b ≡ true = subst (λ (v : ℕ). among k x v ≡ true) e there in rw (t, m) refl)
+    (λ (ne : x k ≡ b → ⊥). let t : eqb (x k) b ≡ false = ne_eqb (x k) b ne in rw t refl)
+    (cases_eq (x k) b)
+
+one_more : (t : Bool) (a b : ℕ) → a ≡ cond t 1 0 + b → a ≤ 1 + b
+one_more true a b e = omega arith
+one_more false a b e = omega arith
+
+-- k numbers are k at most
+degree_at_most : (x : ℕ → ℕ) (k n : ℕ) → degree (among k x) n ≤ k
+degree_at_most x zero n = let e = degree_none x n in omega arith
+degree_at_most x (suc k) n =
+    let ih = degree_at_most x k n in
+    ⊎_elim
+    (λ (t : among k x (x k) ≡ true). let e = degree_cong (among (suc k) x) (among k x) n (λ b _. absorbed k x b t) in omega arith)
+    (λ (f : among k x (x k) ≡ false). let e = degree_insert (among k x) (among (suc k) x) (x k) n (λ b. refl) f in let l = one_more (ltb (x k) n) _ _ e in omega arith)
+    (cases_Bool (among k x (x k)))
+
 degree_mono : (f g : ℕ → Bool) (n : ℕ) → ((b : ℕ) → f b ≡ true → g b ≡ true) → degree f n ≤ degree g n
 degree_mono f g zero h = omega arith
 degree_mono f g (suc n) h =
@@ -90,7 +129,13 @@ degree_mono f g (suc n) h =
 
 module _ (xs : List ℕ) (long : length xs ≡ 65) (row : ascending xs ≡ true) where
   pub behind : (i j : ℕ) → i < j → j < 65 → After (get_or xs i 0) (get_or xs j 0)
-  behind = far (λ i. get_or xs i 0) ((adjacent xs).0 row)
+  behind = far (λ i. get_or xs i 0) ((ascends_tells xs).0 row).follow
+
+  pub numbers : (i : ℕ) → i < 65 → Number (get_or xs i 0)
+  numbers = ((ascends_tells xs).0 row).number
+
+  pub last_ends : get_or xs 64 0 ≡ 65535
+  last_ends = ((ascends_tells xs).0 row).closed
 
   pub level : (i j : ℕ) → i ≤ j → j < 65 → get_or xs i 0 ≤ get_or xs j 0
   level i j a b = ⊎_elim
@@ -125,3 +170,25 @@ module _ (xs : List ℕ) (long : length xs ≡ 65) (row : ascending xs ≡ true)
       (λ (l : w.0 < p). let z = parts.low w.0 l in omega (arith, w.2))
       (λ (g : p ≤ w.0). let z = level p w.0 g (omega (arith, w.1)) in let f = first (omega (arith, w.1)) in omega (arith, w.2))
       (cases_lt w.0 p))
+
+  -- where no number from place k on is below n, there are k at most
+  few_before : (n k : ℕ) → k ≤ 65 → ((i : ℕ) → k ≤ i → i < 65 → n ≤ get_or xs i 0) → degree (listed xs) n ≤ k
+  few_before n k within high =
+      let e = degree_cong (listed xs) (among k (λ i. get_or xs i 0)) n (λ b below.
+      same_from_decides _ _ (listed_tells xs b) (
+        (λ t. let w = (among_tells k (λ i. get_or xs i 0) b).0 t in (w.0, omega (arith, w.1), w.2)),
+        (λ w. (among_tells k (λ i. get_or xs i 0) b).1 (w.0, ⊎_elim (λ (l : w.0 < k). l) (λ (g : k ≤ w.0). let z = high w.0 g (omega (arith, w.1)) in absurd (omega (arith, w.2))) (cases_lt w.0 k), w.2)),
+      )) in
+      let l = degree_at_most (λ i. get_or xs i 0) k n in
+      omega arith
+
+  of_modules : OfModules xs
+  of_modules = record {
+    few = few_before 512 64 (omega arith) (λ i g l. let z : i ≡ 64 = omega arith in let v = ap (λ (j : ℕ). get_or xs j 0) z in omega (arith, last_ends));
+    small = λ d t ne. let w = (listed_tells xs d).0 t in ⊎_elim (λ (l : get_or xs w.0 0 < 512). omega (arith, w.2)) (λ (e : get_or xs w.0 0 ≡ 65535). absurd (ne (sym w.2 ∙ e))) (numbers w.0 (omega (arith, w.1)));
+    fills = λ i j e a b. let l = level i j a b in ⊎_elim (λ (s : get_or xs j 0 < 512). omega arith) (λ (f : get_or xs j 0 ≡ 65535). f) (numbers j b);
+    closed = last_ends;
+  }
+
+pub rows_are_of_modules : RowsAreOfModules
+rows_are_of_modules row h = of_modules row h.long h.order

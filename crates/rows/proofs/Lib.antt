@@ -1,2 +1,3 @@
 pub mod Ascending
 pub mod Shifted
+pub mod AnyContent

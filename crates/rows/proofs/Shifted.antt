@@ -1,5 +1,5 @@
 -- A row after one number is put in or taken out.
-use Rattle.std.proofs.Common.{◌≡◌, ℕ, ◌+◌, ◌-◌, ◌<◌, ◌≤◌, true, false, eqb, List, ◌++◌, length, get_or, set, take, drop, sym, ap, ◌∙◌, inl, inr, ⊎_elim, arith, get_or-set_other, get_or-set_same, length-set}
+use Rattle.std.proofs.Common.{◌≡◌, ℕ, ◌+◌, ◌-◌, ◌<◌, ◌≤◌, true, false, eqb, List, ◌++◌, length, get_or, set, take, drop, refl, sym, ap, ◌∙◌, inl, inr, ⊎_elim, arith, get_or-set_other, get_or-set_same, length-set}
 use borrow.Rule.Slice.PartMut.{put_mid}
 use Rattle.std.specs.List.{RotatedLeft, RotatedRight}
 use Rattle.std.proofs.lemmas.Bool.{cases_eq, cases_lt, eq-eqb, ne_eqb, both_ways}
@@ -7,7 +7,7 @@ use Rattle.std.proofs.lemmas.Bool.Decides.{same_from_decides}
 use Rattle.std.proofs.lemmas.List.{get_or_append_left, get_or-append_right, get_or-take, get_or-drop, length-take, length-drop, length-append}
 use Rattle.stores.specs.Pairs.{degree, with_number}
 use Rattle.rows.specs.Rows.{ascending, listed, Parts}
-use Rattle.rows.proofs.Ascending.{After, adjacent, listed_tells, refuted, behind, level, strict, many}
+use Rattle.rows.proofs.Ascending.{After, Number, ascends_tells, listed_tells, refuted, behind, numbers, last_ends, level, strict, many}
 
 -- d stands at place p now, and what stood from there on one place further
 pub record Inserted (old new : List ℕ) (d p : ℕ) : Type 0 where
@@ -25,6 +25,9 @@ pub record Removed (old new : List ℕ) (p : ℕ) : Type 0 where
 
 after_at : (a b c d : ℕ) → a ≡ c → b ≡ d → After c d → After a b
 after_at a b c d e f h = rw (e, f) h
+
+number_at : (a b : ℕ) → a ≡ b → Number b → Number a
+number_at a b e h = rw e h
 
 -- the part of a row from place p on, written
 module _ (old ys : List ℕ) (p k : ℕ) (long : length old ≡ 65) (within : p < 65) (part : k ≡ length old - p) (same : length ys ≡ length (take k (drop p old))) where
@@ -61,25 +64,63 @@ module _ (old ys : List ℕ) (p k : ℕ) (long : length old ≡ 65) (within : p 
     closed = get_or-set_same (put_mid p k old ys) 64 65535 0 (omega (arith, long_part));
   }
 
-module _ (n : ℕ) (old : List ℕ) (d p : ℕ) (small : n ≤ 512) (inside : d < n) (long : length old ≡ 65) (row : ascending old ≡ true) (parts : Parts old d p) where
-  module _ (fresh : listed old d ≡ false) (few : degree (listed old) n < 64) where
-    pub place_within : p < 65
-    place_within = let m = many old long row n p small parts.few (λ j h. let l = parts.low j h in omega arith) in omega arith
+-- the part from a cell of the row on has a cell
+pub part_has : (old : List ℕ) (p : ℕ) → length old ≡ 65 → p < 65 → 1 ≤ length (take (length old - p) (drop p old))
+part_has old p long within = omega (arith, length-take (length old - p) (drop p old), length-drop p old)
 
-    last_free : n ≤ get_or old 64 0
-    last_free = ⊎_elim (λ (l : get_or old 64 0 < n). let m = many old long row n 65 small (omega arith) (λ j h. let v = level old long row j 64 (omega arith) (omega arith) in omega arith) in omega arith) (λ g. g) (cases_lt (get_or old 64 0) n)
+module _ (n : ℕ) (old : List ℕ) (d p : ℕ) (small : n ≤ 512) (inside : d < n) (long : length old ≡ 65) (row : ascending old ≡ true) (parts : Parts old d p) where
+  last_free : n ≤ get_or old 64 0
+  last_free = omega (arith, last_ends old long row)
+
+  -- fewer than 64 numbers leave the 64th cell free
+  pub room : n ≡ 512 → degree (listed old) n < 64 → get_or old 63 0 ≡ 65535
+  room all few = ⊎_elim
+      (λ (l : get_or old 63 0 < 512). let m = many old long row n 64 small (omega arith) (λ j h. let v = level old long row j 63 (omega arith) (omega arith) in omega arith) in absurd (omega arith))
+      (λ (e : get_or old 63 0 ≡ 65535). e)
+      (numbers old long row 63 (omega arith))
+
+  -- a number at or above d in the 64th cell is behind the place of d
+  pub place_before : d ≤ get_or old 63 0 → p < 64
+  place_before h = ⊎_elim (λ (l : p < 64). l) (λ (g : 64 ≤ p). let l = parts.low 63 (omega arith) in absurd (omega arith)) (cases_lt p 64)
+
+  pub place_few : n ≡ 512 → degree (listed old) n < 64 → p < 65
+  place_few all few = let free = room all few in let w = place_before (omega arith) in omega arith
+
+  pub other_from : listed old d ≡ false → p < 65 → get_or old p 0 ≡ d → ⊥
+  other_from fresh within e = both_ways _ fresh ((listed_tells old d).1 (p, omega arith, e))
+
+  pub found_at : listed old d ≡ true → (p < 65) × (get_or old p 0 ≡ d)
+  found_at there =
+      let w = (listed_tells old d).0 there in
+      let m : w.0 < 65 = omega (arith, w.1) in
+      let g : p ≤ w.0 = ⊎_elim (λ (l : w.0 < p). let z = parts.low w.0 l in omega (arith, w.2)) (λ q. q) (cases_lt w.0 p) in
+      let v = level old long row p w.0 g m in
+      let high = parts.high p (omega arith) (omega arith) in
+      (omega arith, omega (arith, w.2))
+
+  module _ (free : get_or old 63 0 ≡ 65535) where
+    place_within : p < 64
+    place_within = place_before (omega arith)
+
+    pub place_stands : (ys : List ℕ) (k : ℕ) → k ≡ length old - p → length ys ≡ length (take k (drop p old)) → p < length (put_mid p k old ys)
+    place_stands ys k part same = omega (arith, long_part old ys p k long (omega (arith, place_within)) part same, place_within)
+
+  module _ (free : get_or old 63 0 ≡ 65535) (other : get_or old p 0 ≡ d → ⊥) where
+    within_row : p < 64
+    within_row = place_within free
 
     above_d : (i : ℕ) → p ≤ i → i < 65 → d < get_or old i 0
     above_d i h l =
-        let high = parts.high i h l in
-        let ne : get_or old i 0 ≡ d → ⊥ = λ e. both_ways _ fresh ((listed_tells old d).1 (i, omega arith, e)) in
+        let high = parts.high p (omega arith) (omega (arith, within_row)) in
+        let up = level old long row p i h l in
+        let ne : get_or old p 0 ≡ d → ⊥ = other in
         grind arith
 
     module _ (new : List ℕ) (h : Inserted old new d p) where
-      insert_ascends : ascending new ≡ true
-      insert_ascends = (adjacent new).1 (λ i l.
+      insert_follow : (i : ℕ) → i < 64 → After (get_or new i 0) (get_or new (i + 1) 0)
+      insert_follow i l =
           ⊎_elim
-          (λ (a : i + 1 < p). after_at _ _ _ _ (h.low i (omega arith)) (h.low (i + 1) a) ((adjacent old).0 row i l))
+          (λ (a : i + 1 < p). after_at _ _ _ _ (h.low i (omega arith)) (h.low (i + 1) a) (behind old long row i (i + 1) (omega arith) (omega arith)))
           (λ (a : p ≤ i + 1). ⊎_elim
           (λ (b : i < p). let e : i + 1 ≡ p = omega arith in let z = parts.low i b in inl (omega (arith, h.low i b, ap (λ (j : ℕ). get_or new j 0) e, h.here)))
           (λ (b : p ≤ i). ⊎_elim
@@ -90,12 +131,28 @@ module _ (n : ℕ) (old : List ℕ) (d p : ℕ) (small : n ≤ 512) (inside : d 
           after_at _ _ _ _ (ap (λ (j : ℕ). get_or new j 0) (sym e) ∙ h.above (i - 1) (omega arith) (omega arith)) (h.above i b l) (behind old long row (i - 1) i (omega arith) (omega arith)))
           (cases_eq i p))
           (cases_lt i p))
-          (cases_lt (i + 1) p))
+          (cases_lt (i + 1) p)
+
+      insert_number : (i : ℕ) → i < 65 → Number (get_or new i 0)
+      insert_number i l =
+          ⊎_elim
+          (λ (a : i < p). number_at _ _ (h.low i a) (numbers old long row i l))
+          (λ (a : p ≤ i). ⊎_elim
+          (λ (e : i ≡ p). number_at _ _ (ap (λ (j : ℕ). get_or new j 0) e ∙ h.here) (inl (omega arith)))
+          (λ (ne : i ≡ p → ⊥).
+          let q : p < i = grind arith in
+          let e : i - 1 + 1 ≡ i = omega arith in
+          number_at _ _ (ap (λ (j : ℕ). get_or new j 0) (sym e) ∙ h.above (i - 1) (omega arith) (omega arith)) (numbers old long row (i - 1) (omega arith)))
+          (cases_eq i p))
+          (cases_lt i p)
+
+      insert_ascends : ascending new ≡ true
+      insert_ascends = (ascends_tells new).1 (record { follow = insert_follow; number = insert_number; closed = h.above 63 (omega (arith, within_row)) (omega arith) ∙ free })
 
       insert_lists : (b : ℕ) → b < n → listed new b ≡ with_number true (listed old) d b
       insert_lists b below =
           ⊎_elim
-          (λ (e : b ≡ d). let t : eqb b d ≡ true = eq-eqb b d e in rw t ((listed_tells new b).1 (p, omega (arith, h.long, place_within), h.here ∙ sym e)))
+          (λ (e : b ≡ d). let t : eqb b d ≡ true = eq-eqb b d e in rw t ((listed_tells new b).1 (p, omega (arith, h.long, within_row), h.here ∙ sym e)))
           (λ (ne : b ≡ d → ⊥).
           let t : eqb b d ≡ false = ne_eqb b d ne in
           rw t (same_from_decides _ _ (listed_tells new b) (
@@ -123,32 +180,26 @@ module _ (n : ℕ) (old : List ℕ) (d p : ℕ) (small : n ≤ 512) (inside : d 
 
     -- the row after the part from the place of d on was turned by one, and d written there
     module _ (ys : List ℕ) (k : ℕ) (part : k ≡ length old - p) (same : length ys ≡ length (take k (drop p old))) where
-      pub place_stands : p < length (put_mid p k old ys)
-      place_stands = omega (arith, long_part old ys p k long place_within part same, place_within)
-
       pub put_in : RotatedRight (take k (drop p old)) ys (length (take k (drop p old))) 1
           → (ascending (set (put_mid p k old ys) p d) ≡ true) × ((b : ℕ) → b < n → listed (set (put_mid p k old ys) p d) b ≡ with_number true (listed old) d b)
-      put_in turned = let h = inserted old ys p k long place_within part same d turned in (insert_ascends (set (put_mid p k old ys) p d) h, insert_lists (set (put_mid p k old ys) p d) h)
+      put_in turned = let h = inserted old ys p k long (omega (arith, within_row)) part same d turned in (insert_ascends (set (put_mid p k old ys) p d) h, insert_lists (set (put_mid p k old ys) p d) h)
 
-  module _ (there : listed old d ≡ true) where
-    pub stands : (p < 65) × (get_or old p 0 ≡ d)
-    stands =
-        let w = (listed_tells old d).0 there in
-        let m : w.0 < 65 = omega (arith, w.1) in
-        let g : p ≤ w.0 = ⊎_elim (λ (l : w.0 < p). let z = parts.low w.0 l in omega (arith, w.2)) (λ q. q) (cases_lt w.0 p) in
-        let v = level old long row p w.0 g m in
-        let high = parts.high p (omega arith) (omega arith) in
-        (omega arith, omega (arith, w.2))
+  -- the same of a row with fewer than 64 numbers, that has no d
+  pub put_few : n ≡ 512 → listed old d ≡ false → degree (listed old) n < 64 → (ys : List ℕ) (k : ℕ) → k ≡ length old - p → length ys ≡ length (take k (drop p old))
+      → RotatedRight (take k (drop p old)) ys (length (take k (drop p old))) 1
+      → (ascending (set (put_mid p k old ys) p d) ≡ true) × ((b : ℕ) → b < n → listed (set (put_mid p k old ys) p d) b ≡ with_number true (listed old) d b)
+  put_few all fresh few ys k part same turned = let free = room all few in put_in free (other_from fresh (omega (arith, place_within free))) ys k part same turned
 
-    module _ (new : List ℕ) (h : Removed old new p) (fits : (i : ℕ) → get_or old i 0 ≤ 65535) where
-      to_end : (a : ℕ) → a ≤ 65535 → After a 65535
-      to_end a l = ⊎_elim (λ (s : a < 65535). inl s) (λ (s : 65535 ≤ a). inr (omega arith, omega arith)) (cases_lt a 65535)
+  module _ (within : p < 65) (here : get_or old p 0 ≡ d) where
+    module _ (new : List ℕ) (h : Removed old new p) where
+      to_end : (a : ℕ) → Number a → After a 65535
+      to_end a l = ⊎_elim (λ (s : a < 512). inl (omega arith)) (λ (e : a ≡ 65535). inr (e, refl)) l
 
-      remove_ascends : ascending new ≡ true
-      remove_ascends = (adjacent new).1 (λ i l.
+      remove_follow : (i : ℕ) → i < 64 → After (get_or new i 0) (get_or new (i + 1) 0)
+      remove_follow i l =
           ⊎_elim
           (λ (z : i + 1 < 64). ⊎_elim
-          (λ (a : i + 1 < p). after_at _ _ _ _ (h.low i (omega arith)) (h.low (i + 1) a) ((adjacent old).0 row i l))
+          (λ (a : i + 1 < p). after_at _ _ _ _ (h.low i (omega arith)) (h.low (i + 1) a) (behind old long row i (i + 1) (omega arith) (omega arith)))
           (λ (a : p ≤ i + 1). ⊎_elim
           (λ (b : i < p). after_at _ _ _ _ (h.low i b) (h.above (i + 1) a z) (behind old long row i (i + 1 + 1) (omega arith) (omega arith)))
           (λ (b : p ≤ i). after_at _ _ _ _ (h.above i b l) (h.above (i + 1) a z) (behind old long row (i + 1) (i + 1 + 1) (omega arith) (omega arith)))
@@ -157,10 +208,23 @@ module _ (n : ℕ) (old : List ℕ) (d p : ℕ) (small : n ≤ 512) (inside : d 
           (λ (z : 64 ≤ i + 1).
           let e : i + 1 ≡ 64 = omega arith in
           ⊎_elim
-          (λ (b : i < p). after_at _ _ _ _ (h.low i b) (ap (λ (j : ℕ). get_or new j 0) e ∙ h.closed) (to_end _ (fits i)))
-          (λ (b : p ≤ i). after_at _ _ _ _ (h.above i b l) (ap (λ (j : ℕ). get_or new j 0) e ∙ h.closed) (to_end _ (fits (i + 1))))
+          (λ (b : i < p). after_at _ _ _ _ (h.low i b) (ap (λ (j : ℕ). get_or new j 0) e ∙ h.closed) (to_end _ (numbers old long row i (omega arith))))
+          (λ (b : p ≤ i). after_at _ _ _ _ (h.above i b l) (ap (λ (j : ℕ). get_or new j 0) e ∙ h.closed) (to_end _ (numbers old long row (i + 1) (omega arith))))
           (cases_lt i p))
-          (cases_lt (i + 1) 64))
+          (cases_lt (i + 1) 64)
+
+      remove_number : (i : ℕ) → i < 65 → Number (get_or new i 0)
+      remove_number i l =
+          ⊎_elim
+          (λ (z : i < 64). ⊎_elim
+          (λ (a : i < p). number_at _ _ (h.low i a) (numbers old long row i l))
+          (λ (a : p ≤ i). number_at _ _ (h.above i a z) (numbers old long row (i + 1) (omega arith)))
+          (cases_lt i p))
+          (λ (z : 64 ≤ i). let e : i ≡ 64 = omega arith in number_at _ _ (ap (λ (j : ℕ). get_or new j 0) e ∙ h.closed) (inr refl))
+          (cases_lt i 64)
+
+      remove_ascends : ascending new ≡ true
+      remove_ascends = (ascends_tells new).1 (record { follow = remove_follow; number = remove_number; closed = h.closed })
 
       remove_lists : (b : ℕ) → b < n → listed new b ≡ with_number false (listed old) d b
       remove_lists b below =
@@ -174,7 +238,7 @@ module _ (n : ℕ) (old : List ℕ) (d p : ℕ) (small : n ≤ 512) (inside : d 
           ⊎_elim
           (λ (l : w.0 < p). let z = parts.low w.0 l in omega (arith, h.low w.0 l, w.2))
           (λ (g : p ≤ w.0). ⊎_elim
-          (λ (l : w.0 < 64). let z = strict old long row p (w.0 + 1) (omega arith) (omega arith) (omega (arith, stands.1)) in omega (arith, h.above w.0 g l, w.2, stands.1))
+          (λ (l : w.0 < 64). let z = strict old long row p (w.0 + 1) (omega arith) (omega arith) (omega (arith, here)) in omega (arith, h.above w.0 g l, w.2, here))
           (λ (z : 64 ≤ w.0). omega (arith, ends w.0 z m, w.2))
           (cases_lt w.0 64))
           (cases_lt w.0 p))))
@@ -187,7 +251,7 @@ module _ (n : ℕ) (old : List ℕ) (d p : ℕ) (small : n ≤ 512) (inside : d 
                 ⊎_elim
                 (λ (l : w.0 < p). (w.0, omega (arith, h.long), h.low w.0 l ∙ w.2))
                 (λ (g : p ≤ w.0). ⊎_elim
-                (λ (e : w.0 ≡ p). absurd (ne (sym w.2 ∙ ap (λ (j : ℕ). get_or old j 0) e ∙ stands.1)))
+                (λ (e : w.0 ≡ p). absurd (ne (sym w.2 ∙ ap (λ (j : ℕ). get_or old j 0) e ∙ here)))
                 (λ (q : w.0 ≡ p → ⊥). let l : p < w.0 = grind arith in let e : w.0 - 1 + 1 ≡ w.0 = omega arith in (w.0 - 1, omega (arith, h.long), h.above (w.0 - 1) (omega arith) (omega arith) ∙ ap (λ (j : ℕ). get_or old j 0) e ∙ w.2))
                 (cases_eq w.0 p))
                 (cases_lt w.0 p)),
@@ -204,7 +268,7 @@ module _ (n : ℕ) (old : List ℕ) (d p : ℕ) (small : n ≤ 512) (inside : d 
           (cases_eq b d)
 
     -- the row after the part from the place of d on was turned back by one, and END written last
-    pub taken_out : (fits : (i : ℕ) → get_or old i 0 ≤ 65535) (ys : List ℕ) (k : ℕ) → k ≡ length old - p → length ys ≡ length (take k (drop p old))
+    pub taken_out : (ys : List ℕ) (k : ℕ) → k ≡ length old - p → length ys ≡ length (take k (drop p old))
         → RotatedLeft (take k (drop p old)) ys (length (take k (drop p old))) 1
         → (ascending (set (put_mid p k old ys) 64 65535) ≡ true) × ((b : ℕ) → b < n → listed (set (put_mid p k old ys) 64 65535) b ≡ with_number false (listed old) d b)
-    taken_out fits ys k part same turned = let h = removed old ys p k long stands.0 part same turned in (remove_ascends (set (put_mid p k old ys) 64 65535) h fits, remove_lists (set (put_mid p k old ys) 64 65535) h fits)
+    taken_out ys k part same turned = let h = removed old ys p k long within part same turned in (remove_ascends (set (put_mid p k old ys) 64 65535) h, remove_lists (set (put_mid p k old ys) 64 65535) h)

@@ -2,6 +2,8 @@
 use Rattle.std.specs.Prelude.{◌≡◌, ℕ, zero, suc, ◌+◌, ◌<◌, ◌≤◌, Bool, true, false, ◌&&◌, ◌||◌, ◌==◌, List, replicate, nat_lt, slice_index, refl}
 use Rattle.std.specs.List.{list_any}
 use Rattle.std.proofs.Common.{◌≢◌, arith}
+use Rattle.stores.specs.Cells.{IsRow}
+use Rattle.stores.specs.Pairs.{degree}
 use Rattle.std.proofs.lemmas.Bool.{ne_eqb}
 
 -- whether the test holds of each number below k
@@ -13,9 +15,13 @@ every (suc k) t = t k && every k t
 abbrev pub follows : ℕ → ℕ → Bool
 follows x y = nat_lt x y || (x == 65535 && y == 65535)
 
--- each of the 65 numbers follows the one before it
+-- a module's number, or END
+abbrev pub in_range : ℕ → Bool
+in_range x = nat_lt x 512 || x == 65535
+
+-- each of the 65 numbers follows the one before it and is a module's or END, and the last is END
 unfoldable pub ascending : List ℕ → Bool
-ascending xs = every 64 (λ i. follows (slice_index xs i) (slice_index xs (i + 1)))
+ascending xs = every 64 (λ i. follows (slice_index xs i) (slice_index xs (i + 1))) && (every 65 (λ i. in_range (slice_index xs i)) && (slice_index xs 64 == 65535))
 
 -- d is one of the numbers
 abbrev pub listed : List ℕ → ℕ → Bool
@@ -26,6 +32,17 @@ pub record Parts (xs : List ℕ) (d p : ℕ) : Type 0 where
   pub few : p ≤ 65
   pub low : (i : ℕ) → i < p → slice_index xs i < d
   pub high : (i : ℕ) → p ≤ i → i < 65 → d ≤ slice_index xs i
+
+-- a row lists at most 64 numbers, each a module's, and END fills it to its end
+pub record OfModules (row : List ℕ) : Type 0 where
+  pub few : degree (listed row) 512 ≤ 64
+  pub small : (d : ℕ) → listed row d ≡ true → d ≢ 65535 → d < 512
+  pub fills : (i j : ℕ) → slice_index row i ≡ 65535 → i ≤ j → j < 65 → slice_index row j ≡ 65535
+  pub closed : slice_index row 64 ≡ 65535
+
+-- so does each row that is in order
+abbrev pub RowsAreOfModules : Type 0
+RowsAreOfModules = (row : List ℕ) → IsRow 65 ascending row → OfModules row
 
 pub blank_ascends : ascending (replicate 65 65535) ≡ true
 unfolding ascending

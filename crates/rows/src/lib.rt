@@ -7,6 +7,8 @@ ghost use Rattle.stores.specs.Cells.{IsRow};
 ghost use Rattle.stores.specs.Pairs.{below, degree, Smallest, NoneFrom};
 ghost use Rattle.rows.specs.Rows.{ascending, listed, Parts, blank_ascends, blank_lists};
 
+pub mod laws;
+
 use stores::layout::Layout;
 use stores::lent::LentStore;
 use tables::index::ModuleIdx;
