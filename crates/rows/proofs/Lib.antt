@@ -1,3 +1,4 @@
 pub mod Ascending
 pub mod Shifted
+pub mod Edited
 pub mod AnyContent

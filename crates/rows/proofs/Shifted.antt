@@ -2,7 +2,7 @@
 use Rattle.std.proofs.Common.{◌≡◌, ℕ, ◌+◌, ◌-◌, ◌<◌, ◌≤◌, true, false, eqb, List, ◌++◌, length, get_or, set, take, drop, refl, sym, ap, ◌∙◌, inl, inr, ⊎_elim, arith, get_or-set_other, get_or-set_same, length-set}
 use borrow.Rule.Slice.PartMut.{put_mid}
 use Rattle.std.specs.List.{RotatedLeft, RotatedRight}
-use Rattle.std.proofs.lemmas.Bool.{cases_eq, cases_lt, eq-eqb, ne_eqb, both_ways}
+use Rattle.std.proofs.lemmas.Bool.{cases_eq, cases_lt, eq-eqb, ne_eqb}
 use Rattle.std.proofs.lemmas.Bool.Decides.{same_from_decides}
 use Rattle.std.proofs.lemmas.List.{get_or_append_left, get_or-append_right, get_or-take, get_or-drop, length-take, length-drop, length-append}
 use Rattle.stores.specs.Pairs.{degree, with_number}
@@ -64,10 +64,6 @@ module _ (old ys : List ℕ) (p k : ℕ) (long : length old ≡ 65) (within : p 
     closed = get_or-set_same (put_mid p k old ys) 64 65535 0 (omega (arith, long_part));
   }
 
--- the part from a cell of the row on has a cell
-pub part_has : (old : List ℕ) (p : ℕ) → length old ≡ 65 → p < 65 → 1 ≤ length (take (length old - p) (drop p old))
-part_has old p long within = omega (arith, length-take (length old - p) (drop p old), length-drop p old)
-
 module _ (n : ℕ) (old : List ℕ) (d p : ℕ) (small : n ≤ 512) (inside : d < n) (long : length old ≡ 65) (row : ascending old ≡ true) (parts : Parts old d p) where
   last_free : n ≤ get_or old 64 0
   last_free = omega (arith, last_ends old long row)
@@ -83,12 +79,6 @@ module _ (n : ℕ) (old : List ℕ) (d p : ℕ) (small : n ≤ 512) (inside : d 
   pub place_before : d ≤ get_or old 63 0 → p < 64
   place_before h = ⊎_elim (λ (l : p < 64). l) (λ (g : 64 ≤ p). let l = parts.low 63 (omega arith) in absurd (omega arith)) (cases_lt p 64)
 
-  pub place_few : n ≡ 512 → degree (listed old) n < 64 → p < 65
-  place_few all few = let free = room all few in let w = place_before (omega arith) in omega arith
-
-  pub other_from : listed old d ≡ false → p < 65 → get_or old p 0 ≡ d → ⊥
-  other_from fresh within e = both_ways _ fresh ((listed_tells old d).1 (p, omega arith, e))
-
   pub found_at : listed old d ≡ true → (p < 65) × (get_or old p 0 ≡ d)
   found_at there =
       let w = (listed_tells old d).0 there in
@@ -98,16 +88,9 @@ module _ (n : ℕ) (old : List ℕ) (d p : ℕ) (small : n ≤ 512) (inside : d 
       let high = parts.high p (omega arith) (omega arith) in
       (omega arith, omega (arith, w.2))
 
-  module _ (free : get_or old 63 0 ≡ 65535) where
-    place_within : p < 64
-    place_within = place_before (omega arith)
-
-    pub place_stands : (ys : List ℕ) (k : ℕ) → k ≡ length old - p → length ys ≡ length (take k (drop p old)) → p < length (put_mid p k old ys)
-    place_stands ys k part same = omega (arith, long_part old ys p k long (omega (arith, place_within)) part same, place_within)
-
   module _ (free : get_or old 63 0 ≡ 65535) (other : get_or old p 0 ≡ d → ⊥) where
     within_row : p < 64
-    within_row = place_within free
+    within_row = place_before (omega arith)
 
     above_d : (i : ℕ) → p ≤ i → i < 65 → d < get_or old i 0
     above_d i h l =
@@ -183,12 +166,6 @@ module _ (n : ℕ) (old : List ℕ) (d p : ℕ) (small : n ≤ 512) (inside : d 
       pub put_in : RotatedRight (take k (drop p old)) ys (length (take k (drop p old))) 1
           → (ascending (set (put_mid p k old ys) p d) ≡ true) × ((b : ℕ) → b < n → listed (set (put_mid p k old ys) p d) b ≡ with_number true (listed old) d b)
       put_in turned = let h = inserted old ys p k long (omega (arith, within_row)) part same d turned in (insert_ascends (set (put_mid p k old ys) p d) h, insert_lists (set (put_mid p k old ys) p d) h)
-
-  -- the same of a row with fewer than 64 numbers, that has no d
-  pub put_few : n ≡ 512 → listed old d ≡ false → degree (listed old) n < 64 → (ys : List ℕ) (k : ℕ) → k ≡ length old - p → length ys ≡ length (take k (drop p old))
-      → RotatedRight (take k (drop p old)) ys (length (take k (drop p old))) 1
-      → (ascending (set (put_mid p k old ys) p d) ≡ true) × ((b : ℕ) → b < n → listed (set (put_mid p k old ys) p d) b ≡ with_number true (listed old) d b)
-  put_few all fresh few ys k part same turned = let free = room all few in put_in free (other_from fresh (omega (arith, place_within free))) ys k part same turned
 
   module _ (within : p < 65) (here : get_or old p 0 ≡ d) where
     module _ (new : List ℕ) (h : Removed old new p) where

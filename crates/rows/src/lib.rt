@@ -1,7 +1,7 @@
 // A dependency store as rows of ascending numbers in the caller's memory. It uses stores and tables.
 #![tactic(auto)]
 
-ghost use Rattle.std.specs.Prelude.{◌≡◌, ℕ, ◌<◌, ◌≤◌, refl, slice_index, MatchOption};
+ghost use Rattle.std.specs.Prelude.{◌≡◌, ℕ, ◌<◌, ◌≤◌, ◌==◌, ◌&&◌, not, nat_lt, length, refl, slice_index, MatchOption};
 ghost use Rattle.std.proofs.Common.{lit≤};
 ghost use Rattle.stores.specs.Cells.{IsRow};
 ghost use Rattle.stores.specs.Pairs.{below, degree, Smallest, NoneFrom};
@@ -24,17 +24,14 @@ pub type RowStore<'a> = LentStore<'a, Row>;
 
 // How many numbers of the row are below `d`.
 fn place(row: &[u16], d: u16) -> usize
-    requires { IsRow 65 ascending row.now }
-    ensures parts { Parts row.now d result }
-    ensures fits { (i : ℕ) → slice_index row.now i ≤ 65535 }
+    ensures { IsRow 65 ascending row.now → Parts row.now d result }
 {
     row.partition_point(|x| *x < d)
 }
 
 // The first number at or above `from` and below `size` that the row lists.
 fn first(row: &[u16], size: usize, from: u16) -> Option<u16>
-    requires { IsRow 65 ascending row.now }
-    ensures { MatchOption result (NoneFrom (below size (listed row.now)) from) (Smallest (below size (listed row.now)) from) }
+    ensures { IsRow 65 ascending row.now → MatchOption result (NoneFrom (below size (listed row.now)) from) (Smallest (below size (listed row.now)) from) }
 {
     let d = *row.get(place(row, from))?;
     if usize::from(d) < size { Some(d) } else { None }
@@ -42,11 +39,23 @@ fn first(row: &[u16], size: usize, from: u16) -> Option<u16>
 
 // How many modules below `size` the row lists.
 fn listed_below(row: &[u16], size: usize) -> usize
-    requires row { IsRow 65 ascending row.now }
-    requires small { size ≤ 512 }
-    ensures { result ≡ degree (listed row.now) size }
+    ensures { IsRow 65 ascending row.now → size ≤ 512 → result ≡ degree (listed row.now) size }
 {
-    place(row, size as u16)
+    place(row, size.min(512) as u16)
+}
+
+// Whether `d` may come at `place`: the row has a free cell, and another number there.
+fn has_room(row: &[u16], place: usize, d: u16) -> bool
+    ensures { result ≡ (length row.now == 65 && (nat_lt place 64 && (slice_index row.now 63 == 65535 && not (slice_index row.now place == d)))) }
+{
+    row.len() == 65 && place < 64 && row[63] == END && row[place] != d
+}
+
+// Whether `d` stands at `place`.
+fn stands(row: &[u16], place: usize, d: u16) -> bool
+    ensures { result ≡ (length row.now == 65 && (nat_lt place 65 && slice_index row.now place == d)) }
+{
+    row.len() == 65 && place < 65 && row[place] == d
 }
 
 impl Layout for Row {
@@ -78,16 +87,22 @@ impl Layout for Row {
         listed_below(row, size)
     }
 
+    #[tactic(auto, using(crate::proofs::Edited::put_row, crate::proofs::Edited::put_lists, crate::proofs::Edited::put_others))]
     fn put(row: &mut [u16], d: ModuleIdx) {
         let place = place(row, d.0);
-        row[place..].rotate_right(1);
-        row[place] = d.0;
+        if has_room(row, place, d.0) {
+            row[place..].rotate_right(1);
+            row[place] = d.0;
+        }
     }
 
+    #[tactic(auto, using(crate::proofs::Edited::taken_row, crate::proofs::Edited::taken_lists))]
     fn take_out(row: &mut [u16], d: ModuleIdx) {
         let place = place(row, d.0);
-        row[place..].rotate_left(1);
-        row[64] = END;
+        if stands(row, place, d.0) {
+            row[place..].rotate_left(1);
+            row[64] = END;
+        }
     }
 
     ghost copies = { λ _. tt };

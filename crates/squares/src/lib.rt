@@ -47,17 +47,19 @@ fn first_set(row: &[u64], from: usize, size: usize) -> Option<usize>
 
 // `set` and `clear` are two, since they leave other things.
 fn set(row: &mut [u64], d: usize)
-    requires { d / 64 < length row.old }
-    ensures { (b : ℕ) → bits_in row.new b ≡ with_number true (bits_in row.old) d b }
+    ensures { d / 64 < length row.old → (b : ℕ) → bits_in row.new b ≡ with_number true (bits_in row.old) d b }
 {
-    row[d / 64] |= 1 << (d % 64);
+    if d / 64 < row.len() {
+        row[d / 64] |= 1 << (d % 64);
+    }
 }
 
 fn clear(row: &mut [u64], d: usize)
-    requires { d / 64 < length row.old }
-    ensures { (b : ℕ) → bits_in row.new b ≡ with_number false (bits_in row.old) d b }
+    ensures { d / 64 < length row.old → (b : ℕ) → bits_in row.new b ≡ with_number false (bits_in row.old) d b }
 {
-    row[d / 64] &= !(1 << (d % 64));
+    if d / 64 < row.len() {
+        row[d / 64] &= !(1 << (d % 64));
+    }
 }
 
 // How many bits below `size` are set.

@@ -5,7 +5,7 @@ use Rattle.std.proofs.Math.Nat.{mul-le-mul_left, mul-suc}
 use Rattle.std.proofs.lemmas.List.{take-append-le, take-replicate, drop-replicate, length-replicate, length-take, length-take-le, length-drop}
 use Rattle.std.proofs.lemmas.Bool.{cases_Bool, cases_eq, cases_lt, eq-eqb, ne_eqb, le-ltb, lt-ltb}
 use Rattle.std.proofs.lemmas.Slice.{between_is, between-put_mid, take-put_mid_below, drop-put_mid}
-use Rattle.stores.specs.Cells.{row_of, pairs_in, Rewritten}
+use Rattle.stores.specs.Cells.{row_of, pairs_in, IsRow, Rewritten}
 use Rattle.stores.specs.Pairs.{changed, degree, with_number}
 
 -- a row ends before a later one begins
@@ -53,6 +53,21 @@ module _ {X : Type 0} (listed : List X → ℕ → Bool) (per n : ℕ) where
 pub part_is : {X : Type 0} (per : ℕ) (xs : List X) (m first k : ℕ) → first ≡ per * m → k ≡ per → take k (drop first xs) ≡ row_of per xs m
 part_is per xs m first k begins part = subst (λ (f : ℕ). take k (drop first xs) ≡ slice_range xs f (f + per)) begins (ap (λ (j : ℕ). take j (drop first xs)) (omega arith))
 
+pub below_all : (n b : ℕ) → n ≤ 512 → b < n → b < 512
+below_all n b small below = omega arith
+
+-- the k cells from first on are the row of m
+pub row_is : {X : Type 0} (per n : ℕ) (xs : List X) (m first k : ℕ) → m < n → per * n ≤ length xs → first ≡ per * m → k ≡ per
+    → (ordered : List X → Bool) → ((a : ℕ) → a < n → ordered (row_of per xs a) ≡ true) → IsRow per ordered (take k (drop first xs))
+row_is per n xs m first k row room begins part ordered old = record {
+  long = let l = rows_apart per m n row in omega (arith, length-take k (drop first xs), length-drop first xs);
+  order = ap ordered (part_is per xs m first k begins part) ∙ old m row;
+}
+
+-- what holds of all numbers holds of the others
+pub others_as : (f g : ℕ → Bool) (v : Bool) (d : ℕ) → ((b : ℕ) → b < 512 → g b ≡ with_number v f d b) → (b : ℕ) → b < 512 → (b ≡ d → ⊥) → g b ≡ f b
+others_as f g v d lists b h ne = let t : eqb b d ≡ false = ne_eqb b d ne in lists b h ∙ rw t refl
+
 -- xs with the row of m, its k cells from first on, written as ys
 module _ {X : Type 0} (per n : ℕ) (xs ys : List X) (m first k : ℕ) (row : m < n) (room : per * n ≤ length xs) (begins : first ≡ per * m) (part : k ≡ per) (same : length ys ≡ length (take k (drop first xs))) where
   start : first ≤ length xs
@@ -88,17 +103,15 @@ module _ {X : Type 0} (per n : ℕ) (xs ys : List X) (m first k : ℕ) (row : m 
       (λ (ne : a ≡ m → ⊥). ap test (row_kept a ne) ∙ old a ha)
       (cases_eq a m)
 
-  -- the same of the numbers that a row lists
-  pub modules_kept : (listed : List X → ℕ → Bool) (v : Bool) (d : ℕ) → d < n → ((b : ℕ) → b < 512 → listed ys b ≡ with_number v (listed (take k (drop first xs))) d b)
+  -- the same of the numbers that a row lists, where d alone may have come
+  pub modules_kept : (listed : List X → ℕ → Bool) (d : ℕ) → d < n → ((b : ℕ) → b < 512 → (b ≡ d → ⊥) → listed ys b ≡ listed (take k (drop first xs)) b)
       → ((a b : ℕ) → a < n → b < 512 → listed (row_of per xs a) b ≡ true → b < n) → (a b : ℕ) → a < n → b < 512 → listed (row_of per (put_mid first k xs ys) a) b ≡ true → b < n
-  modules_kept listed v d hd lists old a b ha hb there =
+  modules_kept listed d hd others old a b ha hb there =
       ⊎_elim
       (λ (e : a ≡ m). ⊎_elim
       (λ (f : b ≡ d). omega arith)
       (λ (ne : b ≡ d → ⊥).
-      let t : eqb b d ≡ false = ne_eqb b d ne in
-      let w : listed ys b ≡ listed (take k (drop first xs)) b = lists b hb ∙ rw t refl in
-      old m b row hb (ap (λ (r : List X). listed r b) (sym (part_is per xs m first k begins part)) ∙ sym w ∙ ap (λ (r : List X). listed r b) (sym (ap (row_of per (put_mid first k xs ys)) e ∙ row_written)) ∙ there))
+      old m b row hb (ap (λ (r : List X). listed r b) (sym (part_is per xs m first k begins part)) ∙ sym (others b hb ne) ∙ ap (λ (r : List X). listed r b) (sym (ap (row_of per (put_mid first k xs ys)) e ∙ row_written)) ∙ there))
       (cases_eq b d))
       (λ (ne : a ≡ m → ⊥). old a b ha hb (ap (λ (r : List X). listed r b) (sym (row_kept a ne)) ∙ there))
       (cases_eq a m)

@@ -1,10 +1,10 @@
-ghost use Rattle.std.specs.Prelude.{◌≡◌, ℕ, ◌*◌, ◌<◌, ◌≤◌, Bool, true, false, List, length, replicate, MatchOption};
+ghost use Rattle.std.specs.Prelude.{◌≡◌, ℕ, ◌*◌, ◌<◌, ◌≤◌, ◌≢◌, Bool, true, false, List, length, replicate, MatchOption};
 ghost use Rattle.stores.specs.Pairs.{below, degree, with_number, Smallest, NoneFrom};
 ghost use Rattle.stores.specs.Cells.{IsRow};
 
 use tables::index::ModuleIdx;
 
-// How the modules that one module loads lie in its row, a run of cells of the caller's memory. A row is handed over as a slice, and each function asks that it is one: a type around the part of a lent slice would be made anew at each call.
+// How the modules that one module loads lie in its row, a run of cells of the caller's memory. A row is handed over as a slice, since a type around the part of a lent slice would be made anew at each call; a function takes any slice and number, and says what it does with a row's and a module's.
 pub trait Layout {
     // What a cell is: a number or a word.
     type Cell: Copy;
@@ -29,35 +29,25 @@ pub trait Layout {
     ghost listed: { List Self.Cell → ℕ → Bool };
 
     fn has(row: &[Self::Cell], d: ModuleIdx) -> bool
-        requires { IsRow MEMORY_PER_MODULE ordered row.now }
-        ensures { result ≡ listed row.now d.0 };
+        ensures { IsRow MEMORY_PER_MODULE ordered row.now → result ≡ listed row.now d.0 };
 
     // The smallest number at or above `from` and below `size` that the row lists.
     fn next(row: &[Self::Cell], size: usize, from: ModuleIdx) -> Option<ModuleIdx>
-        requires row { IsRow MEMORY_PER_MODULE ordered row.now }
-        requires small { size ≤ 512 }
-        ensures { MatchOption result (NoneFrom (below size (listed row.now)) from.0) (λ d. Smallest (below size (listed row.now)) from.0 d.0) };
+        ensures { IsRow MEMORY_PER_MODULE ordered row.now → size ≤ 512 → MatchOption result (NoneFrom (below size (listed row.now)) from.0) (λ d. Smallest (below size (listed row.now)) from.0 d.0) };
 
     // How many numbers below `size` the row lists.
     fn count(row: &[Self::Cell], size: usize) -> usize
-        requires row { IsRow MEMORY_PER_MODULE ordered row.now }
-        requires small { size ≤ 512 }
-        ensures { result ≡ degree (listed row.now) size };
+        ensures { IsRow MEMORY_PER_MODULE ordered row.now → size ≤ 512 → result ≡ degree (listed row.now) size };
 
+    // Adds the number, where the row lists fewer than 64.
     fn put(row: &mut [Self::Cell], d: ModuleIdx)
-        requires row { IsRow MEMORY_PER_MODULE ordered row.old }
-        requires small { d.0 < 512 }
-        requires fresh { listed row.old d.0 ≡ false }
-        requires few { degree (listed row.old) 512 < 64 }
-        ensures row { ordered row.new ≡ true }
-        ensures lists { (b : ℕ) → b < 512 → listed row.new b ≡ with_number true (listed row.old) d.0 b };
+        ensures row { IsRow MEMORY_PER_MODULE ordered row.old → d.0 < 512 → ordered row.new ≡ true }
+        ensures lists { IsRow MEMORY_PER_MODULE ordered row.old → d.0 < 512 → degree (listed row.old) 512 < 64 → (b : ℕ) → b < 512 → listed row.new b ≡ with_number true (listed row.old) d.0 b }
+        ensures others { IsRow MEMORY_PER_MODULE ordered row.old → d.0 < 512 → (b : ℕ) → b < 512 → b ≢ d.0 → listed row.new b ≡ listed row.old b };
 
     fn take_out(row: &mut [Self::Cell], d: ModuleIdx)
-        requires row { IsRow MEMORY_PER_MODULE ordered row.old }
-        requires small { d.0 < 512 }
-        requires there { listed row.old d.0 ≡ true }
-        ensures row { ordered row.new ≡ true }
-        ensures lists { (b : ℕ) → b < 512 → listed row.new b ≡ with_number false (listed row.old) d.0 b };
+        ensures row { IsRow MEMORY_PER_MODULE ordered row.old → d.0 < 512 → ordered row.new ≡ true }
+        ensures lists { IsRow MEMORY_PER_MODULE ordered row.old → d.0 < 512 → (b : ℕ) → b < 512 → listed row.new b ≡ with_number false (listed row.old) d.0 b };
 
     // a copy of a cell cannot fail, and is the cell
     ghost copies: { (x : Self.Cell) → Self.Cell.is_infallible x };

@@ -1,5 +1,5 @@
 ghost use Rattle.std.specs.Prelude.{◌≡◌, ℕ, ◌*◌, ◌<◌, ◌≤◌, true, false, length, drop, cond, ◌&&◌, nat_lt, IfOk, MatchResult};
-ghost use Rattle.stores.specs.Cells.{row_of, pairs_in, pairs_within, Rewritten};
+ghost use Rattle.stores.specs.Cells.{row_of, pairs_in, pairs_within, IsRow, Rewritten};
 ghost use Rattle.stores.specs.Created.{LaidOut, making_refusal, refusal_of};
 ghost use Rattle.stores.specs.Pairs.{changed, degree, no_pairs};
 
@@ -75,7 +75,8 @@ impl<'a, L: Layout> LentStore<'a, L> {
 
     fn row(&self, m: ModuleIdx) -> &[L::Cell]
         requires { m.0 < self.now.size }
-        ensures { result.now ≡ row_of L.MEMORY_PER_MODULE self.now.memory.now m.0 }
+        ensures cells { result.now ≡ row_of L.MEMORY_PER_MODULE self.now.memory.now m.0 }
+        ensures row { IsRow L.MEMORY_PER_MODULE L.ordered result.now }
     {
         let start = self.start(m);
         &self.memory[start..start + L::MEMORY_PER_MODULE]
@@ -100,13 +101,11 @@ impl<'a, L: Layout> LentStore<'a, L> {
         L::count(self.row(m), self.size)
     }
 
-    // Beside `take_out` a function of its own, as the layouts' two are, since they ask and leave other things.
+    // Adds the pair, where `m` loads fewer than 64. Beside `take_out` a function of its own, as the layouts' two are, since they leave other things.
     fn put(&mut self, m: ModuleIdx, d: ModuleIdx)
-        requires modules { (m.0 < self.old.size) × (d.0 < self.old.size) }
-        requires fresh { pairs_in L.listed L.MEMORY_PER_MODULE self.old.size self.old.memory.now m.0 d.0 ≡ false }
-        requires few { degree (pairs_in L.listed L.MEMORY_PER_MODULE self.old.size self.old.memory.now m.0) self.old.size < 64 }
+        requires { (m.0 < self.old.size) × (d.0 < self.old.size) }
         ensures size { self.new.size ≡ self.old.size }
-        ensures rows { Rewritten L.listed L.MEMORY_PER_MODULE self.old.size (λ old. changed true true old m.0 d.0) self.old.memory.now self.new.memory.now }
+        ensures rows { degree (pairs_in L.listed L.MEMORY_PER_MODULE self.old.size self.old.memory.now m.0) self.old.size < 64 → Rewritten L.listed L.MEMORY_PER_MODULE self.old.size (λ old. changed true true old m.0 d.0) self.old.memory.now self.new.memory.now }
         ensures lender { self.new.memory.ghost_name ≡ self.old.memory.ghost_name }
     {
         let start = self.start(m);
@@ -114,8 +113,7 @@ impl<'a, L: Layout> LentStore<'a, L> {
     }
 
     fn take_out(&mut self, m: ModuleIdx, d: ModuleIdx)
-        requires modules { (m.0 < self.old.size) × (d.0 < self.old.size) }
-        requires there { pairs_in L.listed L.MEMORY_PER_MODULE self.old.size self.old.memory.now m.0 d.0 ≡ true }
+        requires { (m.0 < self.old.size) × (d.0 < self.old.size) }
         ensures size { self.new.size ≡ self.old.size }
         ensures rows { Rewritten L.listed L.MEMORY_PER_MODULE self.old.size (λ old. changed true false old m.0 d.0) self.old.memory.now self.new.memory.now }
         ensures lender { self.new.memory.ghost_name ≡ self.old.memory.ghost_name }

@@ -3,5 +3,5 @@ use Rattle.sets.proofs.Bits.{bit_clear}
 use Rattle.squares.proofs.Bits.{bits_written}
 use Rattle.squares.proofs.clear.Goals as goal
 
-pub returns : goal.returns
-returns c = bits_written c.args.row.now c.args.d _ false c.requires (bit_clear _ (c.args.d % 64) (omega arith))
+pub returns-then-d-row : goal.returns-then-d-row
+returns-then-d-row c within = bits_written c.args.row.now c.args.d _ false within (bit_clear _ (c.args.d % 64) (omega arith))

@@ -6,4 +6,4 @@ use Rattle.stores.proofs.lent.LentStore.count.Goals as goal
 pub returns : goal.returns
 returns g c =
     let s = c.args.self.now in
-    c.count.ensures ∙ ap (λ r. degree (g.L.Layout.listed r) s.size) c.row.ensures ∙ degree_row g.L.Layout.listed g.L.Layout.MEMORY_PER_MODULE s.size s.memory.now c.args.m.0 c.requires
+    c.count.ensures c.row.ensures.row s.small ∙ ap (λ r. degree (g.L.Layout.listed r) s.size) c.row.ensures.cells ∙ degree_row g.L.Layout.listed g.L.Layout.MEMORY_PER_MODULE s.size s.memory.now c.args.m.0 c.requires
