@@ -186,3 +186,10 @@ module _ (rest : ℕ → ℕ → List ℕ) {fs : List (ℕ × ℕ)} {n : ℕ} {f
 
     pub handed_left : (ms : List Bool) → left rest ms (set fs (n - 1) (f.0, b)) < left rest ms fs
     handed_left ms = omega (arith, ap length handing, length-set fs (n - 1) (f.0, b))
+
+    -- the same of a frame that is told to be so
+    pub handed_as : {root : ℕ} {before t : List ℕ} {g : ℕ × ℕ} → g ≡ (f.0, b) → Going rest root before t (pending rest fs) → Going rest root before t (y ∷ pending rest (set fs (n - 1) g))
+    handed_as {root} {before} {t} e s = subst (λ h. Going rest root before t (y ∷ pending rest (set fs (n - 1) h))) (sym e) (handed s)
+
+    pub handed_left_as : {g : ℕ × ℕ} → g ≡ (f.0, b) → (ms : List Bool) → left rest ms (set fs (n - 1) g) < left rest ms fs
+    handed_left_as e ms = subst (λ h. left rest ms (set fs (n - 1) h) < left rest ms fs) (sym e) (handed_left ms)

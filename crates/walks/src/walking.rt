@@ -1,5 +1,5 @@
-ghost use Rattle.std.specs.Prelude.{◌≡◌, ℕ, ◌<◌, true, false, [], ◌∷◌, ◌++◌, if◌then◌else◌, Decides, IfOk, vec_len, slice_index_or, slice_set};
-ghost use Rattle.walks.specs.Walks.{has, Walk};
+ghost use Rattle.std.specs.Prelude.{◌≡◌, ℕ, ◌<◌, true, false, [], ◌∷◌, ◌++◌, length, if◌then◌else◌, Decides, IfOk, vec_len, slice_index_or, slice_set};
+ghost use Rattle.walks.specs.Walks.{has, Walk, Tour};
 ghost use Rattle.walks.specs.Walkers.{size_of, taken_by, Fit, Walked};
 
 use crate::arcs::Arcs;
@@ -24,7 +24,6 @@ impl Walker {
 
     // Walks from each of `roots` in turn, depth first along the arcs, and answers how many nodes are taken.
     // No answer where a root is no node or the arcs have another size than the walker.
-    #[tactic(auto, using(crate::proofs::Reach::toured))]
     pub fn walk<G: Arcs>(&mut self, arcs: &G, roots: &[usize]) -> Option<usize>
         ensures size { size_of self.new ≡ size_of self.old }
         ensures toured { Walked (G.Arcs.nodes arcs.now) (λ x. G.Arcs.rest arcs.now x 0) roots.now self.old self.new result }
@@ -32,10 +31,7 @@ impl Walker {
         if !self.fits(arcs, roots) {
             return None;
         }
-        self.clear();
-        for root in roots {
-            self.walk_from(arcs, *root);
-        }
+        self.tour(arcs, roots);
         Some(self.order.len())
     }
 
@@ -59,6 +55,19 @@ impl Walker {
     {
         let nodes = self.marks.len();
         nodes == arcs.size() && roots.iter().all(|root| *root < nodes)
+    }
+
+    // As `walk`, where the roots and the walker fit the arcs. Apart from it, so that a walk from other roots is refused for the promise.
+    #[tactic(auto, using(crate::proofs::Reach::toured))]
+    fn tour<G: Arcs>(&mut self, arcs: &G, roots: &[usize])
+        requires { Fit (G.Arcs.nodes arcs.now) roots.now (size_of self.old) }
+        ensures size { size_of self.new ≡ size_of self.old }
+        ensures tour { Tour (λ x. G.Arcs.rest arcs.now x 0) roots.now (taken_by self.new) }
+    {
+        self.clear();
+        for root in roots {
+            self.walk_from(arcs, *root);
+        }
     }
 
     // Takes all that was taken away.
@@ -90,7 +99,7 @@ impl Walker {
                     self.stack.pop();
                 }
                 Some((target, after)) => {
-                    top.1 = after;
+                    advance(top, after);
                     self.enter(target);
                 }
             }
@@ -107,9 +116,22 @@ impl Walker {
         ensures stack { self.new.stack.items ≡ (if slice_index_or self.old.marks.items node false then self.old.stack.items else self.old.stack.items ++ (node, 0) ∷ []) }
     {
         if !self.marks[node] {
-            self.marks[node] = true;
+            set(&mut self.marks[node]);
             self.order.push_reserved(node);
             self.stack.push_reserved((node, 0));
         }
     }
+}
+
+// Moves the cursor of a node of the path. It and the next are apart from their callers, so that what they leave out is refused for what they promise.
+fn advance(top: &mut (usize, usize), after: usize)
+    ensures { top.new ≡ (top.old.0, after) }
+{
+    top.1 = after;
+}
+
+fn set(mark: &mut bool)
+    ensures { mark.new ≡ true }
+{
+    *mark = true;
 }

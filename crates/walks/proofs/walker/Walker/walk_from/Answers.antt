@@ -1,7 +1,7 @@
 use Rattle.std.proofs.Common.{◌≡◌, ◌∷◌, sym, refl, ◌∙◌, subst, rules, arith}
 use Rattle.std.proofs.lemmas.List.{nil_from_length}
 use Rattle.walks.specs.Walkers.{taken_by}
-use Rattle.walks.proofs.Steps.{Going, pending, begun, top_of, tried, tried_less, popped, popped_left, handed, handed_left, ended}
+use Rattle.walks.proofs.Steps.{Going, pending, begun, top_of, tried, tried_less, popped, popped_left, handed_as, handed_left_as, ended}
 use Rattle.walks.proofs.walker.Walker.walk_from.Goals as goal
 
 pub loop-top-init : goal.loop-top-init
@@ -31,7 +31,7 @@ loop-top-smaller g c =
     let s = c.loop-top.self in
     let rest = g.G.Arcs.rest c.args.arcs.now in
     let top = top_of s.stack.ok.0 (c.in-Some.ensures.variant.0 refl) c.in-Some.ensures.value in
-    let h = handed_left rest top c.in-Some-next.after c.in-Some-next.target c.in-Some-next.ensures.0 s.marks.items in
+    let h = handed_left_as rest top c.in-Some-next.after c.in-Some-next.target c.in-Some-next.ensures.0 c.advance.ensures s.marks.items in
     tried_less rest s.marked _ c.in-Some-next.target (omega (arith, c.in-Some-next.ensures.1, c.loop-top.invariant.size, c.enter.ensures.size, c.requires.sized)) c.enter-in-Some-next.ensures.marks c.enter-in-Some-next.ensures.stack h
 
 pub loop-top-preserved : goal.loop-top-preserved
@@ -39,7 +39,7 @@ loop-top-preserved g c =
     let s = c.loop-top.self in
     let rest = g.G.Arcs.rest c.args.arcs.now in
     let top = top_of s.stack.ok.0 (c.in-Some.ensures.variant.0 refl) c.in-Some.ensures.value in
-    let h = handed rest top c.in-Some-next.after c.in-Some-next.target c.in-Some-next.ensures.0 c.loop-top.invariant.going in
+    let h = handed_as rest top c.in-Some-next.after c.in-Some-next.target c.in-Some-next.ensures.0 c.advance.ensures c.loop-top.invariant.going in
     record {
       size = c.enter-in-Some-next.ensures.size ∙ c.loop-top.invariant.size;
       going = tried rest s.marked _ c.in-Some-next.target h c.enter-in-Some-next.ensures.order c.enter-in-Some-next.ensures.stack;

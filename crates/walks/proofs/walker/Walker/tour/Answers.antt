@@ -2,7 +2,7 @@ use Rattle.std.proofs.Common.{[], sym, refl, subst, ◌∙◌}
 use Rattle.walks.specs.Walks.{Walk}
 use Rattle.walks.specs.Walks.Walk.{done}
 use Rattle.walks.proofs.Reach.{onward}
-use Rattle.walks.proofs.walker.Walker.walk.Goals as goal
+use Rattle.walks.proofs.walker.Walker.tour.Goals as goal
 
 pub loop-root-init : goal.loop-root-init
 loop-root-init g c = record {

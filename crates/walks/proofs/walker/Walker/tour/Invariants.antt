@@ -1,7 +1,7 @@
 use Rattle.std.proofs.Common.{◌≡◌, [], take, vec_len}
 use Rattle.walks.specs.Walks.{Walk}
 use Rattle.walks.specs.Walkers.{size_of, taken_by}
-use Rattle.walks.proofs.walker.Walker.walk.Given as goal
+use Rattle.walks.proofs.walker.Walker.tour.Given as goal
 
 abbrev pub invariant-loop-root : goal.invariant-loop-root
 invariant-loop-root g l = record {
