@@ -1,5 +1,5 @@
-ghost use Rattle.std.specs.Prelude.{◌≡◌, map, length};
-ghost use Rattle.sets.specs.Sets.{member};
+ghost use Rattle.std.specs.Prelude.{◌≡◌, not, map, length, Decides};
+ghost use Rattle.sets.specs.Sets.{member, Same};
 ghost use Rattle.tables.specs.Panel.{count};
 ghost use Rattle.reach.specs.Data.{panel_in, graph_in, sets_in, earlier_in, names_in, Settled, Renewed, Marked};
 ghost use Rattle.reach.specs.Exact.{Anew};
@@ -84,9 +84,16 @@ impl PlanData {
         moved.clear();
         // by `as`, since that a number fits is proved, and `try_from` would add a case
         for (y, set) in sets.sets.iter().enumerate() {
-            if !earlier.get(y).equals(set) {
+            if differ(&earlier.get(y), set) {
                 moved.push_reserved(ModuleIdx(y as u16));
             }
         }
     }
+}
+
+// Whether a set is another than before. Apart from `name_moved`, so that a wrong answer here is refused for the promise.
+fn differ(before: &EntrySet, after: &EntrySet) -> bool
+    ensures { Decides (not result) (Same before.now after.now) }
+{
+    !before.equals(after)
 }
