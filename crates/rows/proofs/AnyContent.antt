@@ -5,10 +5,10 @@ use Rattle.std.proofs.lemmas.Bool.Decides.{same_from_decides}
 use Rattle.std.proofs.lemmas.List.{get_or-take, get_or-drop, length-take, length-drop}
 use Rattle.stores.specs.Cells.{row_of}
 use Rattle.stores.proofs.Written.{rows_apart}
-use Rattle.rows.specs.Rows.{ascending, listed}
-use Rattle.rows.specs.AnyContent.{rows_of, in_row, stop, row_length, among, listed_in, InOrder, StoresAreRows}
+use Rattle.rows.specs.Rows.{ascending, listed, OfModules}
+use Rattle.rows.specs.AnyContent.{rows_of, in_row, stop, row_length, among, listed_in, InOrder, SamePairs}
 use Rattle.rows.specs.RowFacts.{stops, stop_in, among_tells}
-use Rattle.rows.proofs.Ascending.{listed_tells, level, strict, last_ends}
+use Rattle.rows.proofs.Ascending.{listed_tells, level, strict, last_ends, rows_are_of_modules}
 
 -- a module's number, in a row that is in order, stands before the stop
 before_stop : (n : ℕ) (x : ℕ → ℕ) → ((i j : ℕ) → i ≤ j → j < 65 → x i ≤ x j) → ((i j : ℕ) → i < j → j < 65 → x i < n → x i < x j)
@@ -63,9 +63,9 @@ module _ (n : ℕ) (xs : List ℕ) (h : InOrder n xs) (m : ℕ) (row : m < n) wh
             and_from _ _ (lt-ltb d n below) ((listed_tells (row_of 65 xs m) d).1 (w.0, omega (arith, long), same_number w.0 (omega arith) ∙ w.2))),
       )
 
-pub stores_are_rows : StoresAreRows
+pub same_pairs : (n : ℕ) (xs : List ℕ) → InOrder n xs → SamePairs n xs
 unfolding listed_in
-stores_are_rows n xs h =
+same_pairs n xs h =
     let size : rows_of n xs ≡ n = omega (arith, h.small, h.room) in
     record {
       size = size;
@@ -74,3 +74,8 @@ stores_are_rows n xs h =
           (λ (g : n ≤ a). let t : ltb a n ≡ false = le-ltb a n g in rw t refl)
           (cases_lt a n);
     }
+
+pub store_rows : (n : ℕ) (xs : List ℕ) → InOrder n xs → (m : ℕ) → m < n → OfModules n (row_of 65 xs m)
+store_rows n xs h m row =
+    let r = rows_are_of_modules (row_of 65 xs m) (record { long = long n xs h m row; order = h.ordered m row }) in
+    record { few = r.few; small = λ d t ne. h.modules m d row (r.small d t ne) t; fills = r.fills; closed = r.closed }

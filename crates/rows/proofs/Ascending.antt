@@ -182,7 +182,7 @@ module _ (xs : List ℕ) (long : length xs ≡ 65) (row : ascending xs ≡ true)
       let l = degree_at_most (λ i. get_or xs i 0) k n in
       omega arith
 
-  of_modules : OfModules xs
+  of_modules : OfModules 512 xs
   of_modules = record {
     few = few_before 512 64 (omega arith) (λ i g l. let z : i ≡ 64 = omega arith in let v = ap (λ (j : ℕ). get_or xs j 0) z in omega (arith, last_ends));
     small = λ d t ne. let w = (listed_tells xs d).0 t in ⊎_elim (λ (l : get_or xs w.0 0 < 512). omega (arith, w.2)) (λ (e : get_or xs w.0 0 ≡ 65535). absurd (ne (sym w.2 ∙ e))) (numbers w.0 (omega (arith, w.1)));

@@ -4,7 +4,7 @@ use borrow.Rule.Slice.PartMut.{put_mid}
 use Rattle.std.specs.List.{RotatedLeft, RotatedRight}
 use Rattle.std.proofs.lemmas.Bool.{cases_eq, cases_Bool, eq-eqb, ne_eqb, eqb-true, eqb-false, ltb-true, lt-ltb, and_parts, and_from, not-true, not_from_false, both_ways}
 use Rattle.stores.specs.Cells.{IsRow}
-use Rattle.stores.specs.Pairs.{degree, with_number}
+use Rattle.stores.specs.Pairs.{HasRoom, with_number}
 use Rattle.stores.proofs.Written.{others_as}
 use Rattle.rows.specs.Rows.{ascending, listed, Parts}
 use Rattle.rows.proofs.Ascending.{listed_tells}
@@ -36,7 +36,8 @@ module _ (old : List ℕ) (d p : ℕ) (t : Bool) (q : IsRow 65 ascending old) (s
         put_in 512 old d p (lit≤ tt) small q.long q.order parts (eqb-true _ _ e.0) (eqb-false _ _ (not-true _ e.1)) ys (length old - p) refl same turned
 
     -- a row that has room, and is left as it is, has d
-    left_listed : degree (listed old) 512 < 64 → t ≡ false → listed old d ≡ true
+    left_listed : HasRoom (listed old) → t ≡ false → listed old d ≡ true
+    unfolding HasRoom
     left_listed few fails =
         let free = room 512 old d p (lit≤ tt) small q.long q.order parts refl few in
         let within = place_before 512 old d p (lit≤ tt) small q.long q.order parts (subst (λ (k : ℕ). d ≤ k) (sym free) (below_end d small)) in
@@ -45,7 +46,7 @@ module _ (old : List ℕ) (d p : ℕ) (t : Bool) (q : IsRow 65 ascending old) (s
         (λ (ne : get_or old p 0 ≡ d → ⊥). absurd (both_ways t fails (test ∙ and_from _ _ (eq-eqb _ _ q.long) (and_from _ _ (lt-ltb _ _ within) (and_from _ _ (eq-eqb _ _ free) (not_from_false _ (ne_eqb _ _ ne)))))))
         (cases_eq (get_or old p 0) d)
 
-    pub put_left : degree (listed old) 512 < 64 → t ≡ false → (b : ℕ) → listed old b ≡ with_number true (listed old) d b
+    pub put_left : HasRoom (listed old) → t ≡ false → (b : ℕ) → listed old b ≡ with_number true (listed old) d b
     put_left few fails = with_as true (listed old) d (left_listed few fails)
 
   module _ (test : t ≡ (eqb (length old) 65 && (ltb p 65 && eqb (get_or old p 0) d))) where

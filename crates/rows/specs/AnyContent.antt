@@ -51,6 +51,3 @@ pub record InOrder (n : ℕ) (xs : List ℕ) : Type 0 where
 pub record SamePairs (n : ℕ) (xs : List ℕ) : Type 0 where
   pub size : rows_of n xs ≡ n
   pub pairs : (a b : ℕ) → row_pairs n xs a b ≡ pairs_in listed 65 n xs a b
-
-abbrev pub StoresAreRows : Type 0
-StoresAreRows = (n : ℕ) (xs : List ℕ) → InOrder n xs → SamePairs n xs

@@ -33,16 +33,16 @@ pub record Parts (xs : List ℕ) (d p : ℕ) : Type 0 where
   pub low : (i : ℕ) → i < p → slice_index xs i < d
   pub high : (i : ℕ) → p ≤ i → i < 65 → d ≤ slice_index xs i
 
--- a row lists at most 64 numbers, each a module's, and END fills it to its end
-pub record OfModules (row : List ℕ) : Type 0 where
+-- a row lists at most 64 numbers, each that of one of n modules, and END fills it to its end
+pub record OfModules (n : ℕ) (row : List ℕ) : Type 0 where
   pub few : degree (listed row) 512 ≤ 64
-  pub small : (d : ℕ) → listed row d ≡ true → d ≢ 65535 → d < 512
+  pub small : (d : ℕ) → listed row d ≡ true → d ≢ 65535 → d < n
   pub fills : (i j : ℕ) → slice_index row i ≡ 65535 → i ≤ j → j < 65 → slice_index row j ≡ 65535
   pub closed : slice_index row 64 ≡ 65535
 
 -- so does each row that is in order
 abbrev pub RowsAreOfModules : Type 0
-RowsAreOfModules = (row : List ℕ) → IsRow 65 ascending row → OfModules row
+RowsAreOfModules = (row : List ℕ) → IsRow 65 ascending row → OfModules 512 row
 
 pub blank_ascends : ascending (replicate 65 65535) ≡ true
 unfolding ascending

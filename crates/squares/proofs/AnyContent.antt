@@ -5,7 +5,7 @@ use Rattle.std.proofs.lemmas.List.{get_or-take, get_or-drop}
 use Rattle.sets.specs.Bits.{bit}
 use Rattle.stores.specs.Cells.{row_of}
 use Rattle.squares.specs.Square.{bits_in}
-use Rattle.squares.specs.AnyContent.{place, side_of, pairs_in, StoresAreSquares}
+use Rattle.squares.specs.AnyContent.{Stored, SamePairs, place, side_of, pairs_in}
 
 same_word : (words : List ℕ) (m d : ℕ) → d < 512 → get_or (row_of 8 words m) (d / 64) 0 ≡ get_or words (place m d) 0
 same_word words m d h = get_or-take (8 * m + 8 - 8 * m) (drop (8 * m) words) (d / 64) 0 (omega arith) ∙ get_or-drop (8 * m) words (d / 64) 0
@@ -22,7 +22,7 @@ same_pair n words a b small =
     (λ (g : n ≤ b). let t : ltb b n ≡ false = le-ltb b n g in rw t refl)
     (cases_lt b n)
 
-pub stores_are_squares : StoresAreSquares
-stores_are_squares n words h =
+pub same_pairs : (n : ℕ) (words : List ℕ) → Stored n words → SamePairs n words
+same_pairs n words h =
     let size : side_of n words ≡ n = omega (arith, h.small, h.room) in
     record { size = size; pairs = λ a b. ap (λ (k : ℕ). pairs_in k words a b) size ∙ same_pair n words a b h.small }

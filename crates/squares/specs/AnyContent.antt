@@ -26,7 +26,7 @@ unfolding pairs_in
 within_side n words a b h = let p = and_parts _ _ h in (ltb-true a n p.0, ltb-true b n (and_parts _ _ p.1).0)
 
 -- what the type of a store says of its size and its memory
-pub record Fits (n : ℕ) (words : List ℕ) : Type 0 where
+pub record Stored (n : ℕ) (words : List ℕ) : Type 0 where
   pub small : n ≤ 512
   pub room : 8 * n ≤ length words
 
@@ -34,6 +34,3 @@ pub record Fits (n : ℕ) (words : List ℕ) : Type 0 where
 pub record SamePairs (n : ℕ) (words : List ℕ) : Type 0 where
   pub size : side_of n words ≡ n
   pub pairs : (a b : ℕ) → square_pairs n words a b ≡ pairs_of_rows bits_in 8 n words a b
-
-abbrev pub StoresAreSquares : Type 0
-StoresAreSquares = (n : ℕ) (words : List ℕ) → Fits n words → SamePairs n words

@@ -6,7 +6,7 @@ use Rattle.std.proofs.lemmas.List.{take-append-le, take-replicate, drop-replicat
 use Rattle.std.proofs.lemmas.Bool.{cases_Bool, cases_eq, cases_lt, eq-eqb, ne_eqb, le-ltb, lt-ltb}
 use Rattle.std.proofs.lemmas.Slice.{between_is, between-put_mid, take-put_mid_below, drop-put_mid}
 use Rattle.stores.specs.Cells.{row_of, pairs_in, IsRow, Rewritten}
-use Rattle.stores.specs.Pairs.{changed, degree, with_number}
+use Rattle.stores.specs.Pairs.{changed, degree, with_number, HasRoom}
 
 -- a row ends before a later one begins
 pub rows_apart : (per a b : ℕ) → a < b → per * a + per ≤ per * b
@@ -52,6 +52,10 @@ module _ {X : Type 0} (listed : List X → ℕ → Bool) (per n : ℕ) where
 
 pub part_is : {X : Type 0} (per : ℕ) (xs : List X) (m first k : ℕ) → first ≡ per * m → k ≡ per → take k (drop first xs) ≡ row_of per xs m
 part_is per xs m first k begins part = subst (λ (f : ℕ). take k (drop first xs) ≡ slice_range xs f (f + per)) begins (ap (λ (j : ℕ). take j (drop first xs)) (omega arith))
+
+pub has_room : (f : ℕ → Bool) (k : ℕ) → degree f 512 ≡ k → k < 64 → HasRoom f
+unfolding HasRoom
+has_room f k e few = subst (λ (j : ℕ). j < 64) (sym e) few
 
 pub below_all : (n b : ℕ) → n ≤ 512 → b < n → b < 512
 below_all n b small below = omega arith

@@ -12,6 +12,10 @@ abbrev pub degree : (ℕ → Bool) → ℕ → ℕ
 degree row zero = 0
 degree row (suc n) = cond (row n) 1 0 + degree row n
 
+-- the row has fewer than 64 of the numbers below 512
+unfoldable pub HasRoom : (ℕ → Bool) → Type 0
+HasRoom row = degree row 512 < 64
+
 -- the numbers of the row that are below n
 abbrev pub below : ℕ → (ℕ → Bool) → ℕ → Bool
 below n row b = nat_lt b n && row b

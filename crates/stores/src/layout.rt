@@ -1,5 +1,5 @@
 ghost use Rattle.std.specs.Prelude.{◌≡◌, ℕ, ◌*◌, ◌<◌, ◌≤◌, ◌≢◌, Bool, true, false, List, length, replicate, MatchOption};
-ghost use Rattle.stores.specs.Pairs.{below, degree, with_number, Smallest, NoneFrom};
+ghost use Rattle.stores.specs.Pairs.{below, degree, with_number, HasRoom, Smallest, NoneFrom};
 ghost use Rattle.stores.specs.Cells.{IsRow};
 
 use tables::index::ModuleIdx;
@@ -42,7 +42,7 @@ pub trait Layout {
     // Adds the number, where the row lists fewer than 64.
     fn put(row: &mut [Self::Cell], d: ModuleIdx)
         ensures row { IsRow MEMORY_PER_MODULE ordered row.old → d.0 < 512 → ordered row.new ≡ true }
-        ensures lists { IsRow MEMORY_PER_MODULE ordered row.old → d.0 < 512 → degree (listed row.old) 512 < 64 → (b : ℕ) → b < 512 → listed row.new b ≡ with_number true (listed row.old) d.0 b }
+        ensures lists { IsRow MEMORY_PER_MODULE ordered row.old → d.0 < 512 → HasRoom (listed row.old) → (b : ℕ) → b < 512 → listed row.new b ≡ with_number true (listed row.old) d.0 b }
         ensures others { IsRow MEMORY_PER_MODULE ordered row.old → d.0 < 512 → (b : ℕ) → b < 512 → b ≢ d.0 → listed row.new b ≡ listed row.old b };
 
     fn take_out(row: &mut [Self::Cell], d: ModuleIdx)

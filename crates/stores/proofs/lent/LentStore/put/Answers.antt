@@ -1,6 +1,6 @@
-use Rattle.std.proofs.Common.{◌≡◌, ℕ, ◌+◌, ◌-◌, ◌<◌, true, sym, ap, ◌∙◌, subst, arith}
+use Rattle.std.proofs.Common.{◌≡◌, ◌+◌, ◌-◌, true, ap, ◌∙◌, arith}
 use Rattle.stores.specs.Pairs.{degree}
-use Rattle.stores.proofs.Written.{below_all, part_is, row_is, degree_listed, rows_kept, modules_kept, rewritten}
+use Rattle.stores.proofs.Written.{has_room, below_all, part_is, row_is, degree_listed, rows_kept, modules_kept, rewritten}
 use Rattle.stores.proofs.lent.LentStore.put.Goals as goal
 
 pub invariant_of-self-clause-ordered : goal.invariant_of-self-clause-ordered
@@ -25,5 +25,5 @@ returns-clause-rows g c =
     let part = part_is l.MEMORY_PER_MODULE s.memory.now c.args.m.0 c.start-start.result _ c.start-start.ensures long in
     let count = degree_listed l.listed l.MEMORY_PER_MODULE s.size s.memory.now c.args.m.0 c.requires.0 s.small (λ b. s.modules c.args.m.0 b c.requires.0) in
     λ few.
-    let room = subst (λ (k : ℕ). k < 64) (sym (ap (λ r. degree (l.listed r) 512) part ∙ count)) few in
+    let room = has_room _ _ (ap (λ r. degree (l.listed r) 512) part ∙ count) few in
     rewritten _ s.size s.memory.now _ c.args.m.0 _ _ c.requires.0 s.room c.start-start.ensures long c.put.auto.row l.listed true c.args.d.0 c.requires.1 (λ b h. c.put.ensures.lists is small room b (below_all s.size b s.small h))
