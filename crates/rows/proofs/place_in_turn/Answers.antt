@@ -1,6 +1,6 @@
 use Rattle.std.proofs.Common.{arith}
 use Rattle.rows.proofs.Ascending.{level}
-use Rattle.rows.proofs.place.Goals as goal
+use Rattle.rows.proofs.place_in_turn.Goals as goal
 
 pub returns-then-x-d : goal.returns-then-x-d
 returns-then-x-d c q =
