@@ -34,7 +34,7 @@ pub fn number(text: &[u8]) -> Option<u64>
     Some(value)
 }
 
-#[tactic(auto, using(crate::proofs::Bytes::odd_none))]
+#[tactic(auto, using(crate::proofs::Bytes::odd_none, crate::proofs::Bytes::behind_nothing))]
 // The bytes that digits write, two digits a byte; none where one is no digit or one is left over, of which the second takes no memory.
 pub fn decode(heap: Global, text: &[u8]) -> Result<Option<Vec<u8>>, AllocError>
     ensures bytes { IfOk result (λ o. option_map vec_items o ≡ bytes_in text.now) }

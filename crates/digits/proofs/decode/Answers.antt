@@ -1,11 +1,8 @@
 use Rattle.std.proofs.Common.{◌-◌, drop, length, take, vec_items, sym, ap, ◌∙◌, arith, rules}
 use Rattle.std.proofs.lemmas.List.{length-take, length-drop}
 use Rattle.digits.specs.Digits.{bytes_in}
-use Rattle.digits.proofs.Bytes.{behind, behind_more, behind_nothing}
+use Rattle.digits.proofs.Bytes.{behind, behind_more}
 use Rattle.digits.proofs.decode.Goals as goal
-
-pub loop-rest-init : goal.loop-rest-init
-loop-rest-init c = (ap (λ xs. behind xs (bytes_in c.args.text.now)) c.new-bytes.ensures.items ∙ behind_nothing (bytes_in c.args.text.now), c.if-text-ne0.false)
 
 pub loop-rest-preserved : goal.loop-rest-preserved
 loop-rest-preserved c =
